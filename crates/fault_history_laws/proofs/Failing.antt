@@ -1,5 +1,6 @@
 -- A step that fails: read without its fault the play is where it was, the bytes on their way are those that were, and the file took a front.
 use Rattle.std.proofs.Common.{◌≡◌, ◌≢◌, ◌⊎◌, inl, inr, ℕ, ◌<◌, Bool, true, false, not, ◌&&◌, List, [], ◌∷◌, ◌++◌, map, set, slice_get, Option, Some, None, refl, sym, ◌∙◌, ap, subst, arith}
+use Rattle.std.proofs.lemmas.List.Sums.{count_by-le-length}
 use Rattle.omx_types.specs.declared.command.Event.TheVariants.{Error}
 use Rattle.omx_types.specs.declared.command.Note.TheVariants.{Told}
 use Rattle.omx_types.specs.declared.fault.PartFault.{PartFault}
@@ -34,16 +35,19 @@ use Rattle.play_stream_laws.proofs.PlayClosing.{calm_same, calm_world, one_calm}
 use Rattle.failed_step_laws.specs.Undone.{IsUndone, let_go, undone_in}
 use Rattle.failed_step_laws.proofs.Undoing.{failed_is}
 use Rattle.read_world_laws.specs.Inside.{inside, taken_in}
-use Rattle.read_world_laws.specs.Mended.{gone_on, mend, mended}
+use Rattle.read_world_laws.specs.Mended.{gone_on, is_fault, mend, mended}
+use Rattle.read_world_laws.proofs.Faults.{faults_append, faults_in, one_if, step_faults}
 use Rattle.read_world_laws.proofs.Inside as ins
 use Rattle.read_world_laws.proofs.Mended as mns
 use Rattle.play_history_laws.specs.Following.{IsPlayed}
 use Rattle.play_history_laws.specs.Order.{Cursor}
 use Rattle.play_history_laws.proofs.Following.{follows_on}
 use Rattle.play_history_laws.proofs.Moving.{idles}
-use Rattle.fault_history_laws.specs.Faults.{AreFailedFronts, HasFaulted, HasFaultStreams, IsFaulty}
+use Rattle.play_history_laws.proofs.Onward.{goes_nowhere}
+use Rattle.fault_history_laws.specs.Faults.{AreFailedFronts, AreNoted, HasFaulted, HasFaultStreams, IsFaulty}
 use Rattle.fault_history_laws.proofs.Held.{held_on, whole_back}
 use Rattle.fault_history_laws.proofs.Keeping.{AreInPlace, AreSame, IsSeated, front_gone, in_place, read_there, seated}
+use Rattle.fault_history_laws.proofs.Noted.{none_noted}
 use Rattle.fault_history_laws.proofs.Staying.{closes_stay}
 
 ended_of : (e f : Bool) → (e && not f) ≡ false → f ≡ false → e ≡ false
@@ -194,6 +198,28 @@ module _ (x : PlayCast) (k : Cursor) (recent : ℕ) (p : Play) (ss : List Stream
         | inr z ↦ inr (z.0, K.0, z.1, K.2)
       ]
 
+  -- its fault is the only one of it
+  noted_after : AreNoted v
+  noted_after j d e =
+      let K = (closes_stay effect v closes).failed j d e in
+      let m = K.3 in
+      elim (at_set w.components i j (stepped_back c N.stream done) K.0 K.1) [
+        | inl z ↦
+            let a = ap (λ (y : Component). faults_in y.notes) z.1 in
+            let b = faults_append c.notes (notes_after c N.stream done) in
+            let s = step_faults c N.stream done (fault_note done.fault) in
+            let o : faults_in (fault_note done.fault) ≡ faults_in (fault_note (Some fault)) = ap (λ (y : Option PartFault). faults_in (fault_note y)) f in
+            let one = count_by-le-length is_fault (fault_note (Some fault)) in
+            let none = none_noted w D.noted i c B.there whole in
+            let g : d.part.failed ≡ true = K.2 ∙ (ap (λ (y : Component). y.part.failed) z.1 ∙ ap (λ (y : Option PartFault). (part_by c N.stream done y).failed) f) in
+            let h : one_if d.part.failed ≡ 1 = ap one_if g in
+            omega (arith, m, a, b, s, o, one, none, h)
+        | inr z ↦
+            let n = D.noted j K.0 z.1 in
+            let h : one_if d.part.failed ≡ one_if (K.0).part.failed = ap one_if K.2 in
+            omega (arith, m, n, h)
+      ]
+
   away_from : (j : ℕ) (b : Component) → j ≢ i → slice_get w.components j ≡ Some b → number_of b ≢ i
   away_from j b n h t = n (sym (there_before j b h) ∙ t)
 
@@ -263,7 +289,7 @@ module _ (x : PlayCast) (k : Cursor) (recent : ℕ) (p : Play) (ss : List Stream
         H.fronts l c t b sink h (front_gone i done w v went c d t numbers (away_from (script_place x.cast (taker_of x.cast l)) c n h) g) (sym q ∙ z)
   ]
 
-  pub fails : HasFaulted x k p ss w v
+  pub fails : HasFaulted x k recent p k ss w v
   fails =
       let Z = step_closed w (acts.Finish done) acts.Finished v D.closed s in
       record {
@@ -275,7 +301,9 @@ module _ (x : PlayCast) (k : Cursor) (recent : ℕ) (p : Play) (ss : List Stream
           closed = Z;
           sound = sound_step w v (acts.Finish done) acts.Finished m s D.sound;
           held = held_on w v (acts.Finish done) acts.Finished D.sound m s D.held;
+          noted = noted_after;
           same = same_after;
         };
+        goes = goes_nowhere (x.cast).layout k recent p;
         leads = λ contents stream Q H. record { flows = flows contents H.flows; fronts = fronts contents stream Q H };
       }

@@ -2,6 +2,9 @@ pub mod Held
 pub mod Staying
 pub mod Keeping
 pub mod Asking
+pub mod Noted
+pub mod Roomy
+pub mod Accepting
 pub mod Failing
 pub mod Faulty
 pub mod Whole

@@ -1,5 +1,6 @@
 -- A world without a fault is read as it is.
-use Rattle.std.proofs.Common.{◌≡◌, ℕ, suc, Bool, true, false, not, ◌&&◌, List, [], ◌∷◌, map, slice_get, Some, refl, sym, ◌∙◌, ap, subst}
+use Rattle.std.proofs.Common.{◌≡◌, ℕ, suc, Bool, true, false, not, ◌&&◌, List, [], ◌∷◌, map, slice_get, count_by, arith, Some, refl, sym, ◌∙◌, ap, subst}
+use Rattle.omx_types.specs.declared.command.Note.{Note}
 use Rattle.il_machine.specs.Sound.{Sound}
 use Rattle.il_machine.specs.World.{Component, World}
 use Rattle.play_model.specs.Play.{Play}
@@ -8,7 +9,7 @@ use Rattle.play_stream_laws.specs.Contents.{PlayContents}
 use Rattle.play_world_laws.specs.PlayWorlds.{PlayCast}
 use Rattle.play_stream_laws.specs.PlayStreams.{HasPlayStreams}
 use Rattle.read_world_laws.specs.Inside.{inside}
-use Rattle.read_world_laws.specs.Mended.{given_without, mend, mended, without_faults}
+use Rattle.read_world_laws.specs.Mended.{given_without, is_fault, mend, mended, without_faults}
 use Rattle.play_history_laws.specs.Order.{Cursor}
 use Rattle.play_history_laws.specs.Following.{IsTaken}
 use Rattle.fault_history_laws.specs.Faults.{HasFaultStreams, IsFaulty, IsFresh}
@@ -43,6 +44,7 @@ begins_faulty x k recent p w T S N = record {
   closed = T.closed;
   sound = S;
   held = λ n o. let z = N.free n in absurd cc;
+  noted = λ i c e. let n = ap (λ (ns : List Note). count_by is_fault ns) (N.told i c e) in omega (arith, n);
   same = λ i c e f. refl;
 }
 

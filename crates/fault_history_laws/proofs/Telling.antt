@@ -57,13 +57,13 @@ beside_not : (a : Act) → IsBeside a → IsFree a → ⊥
 beside_not (acts.FreeHandle h) U F = U
 beside_not _ U F = F
 
-allowed_frees : (number : ℕ) (x : PlayCast) (k : Cursor) (w : World) (a : Act) (r : Reply) (j : Cursor) → IsAnyAllowed x k w a r j → is_freed_by number a r ≡ false
+pub allowed_frees : (number : ℕ) (x : PlayCast) (k : Cursor) (w : World) (a : Act) (r : Reply) (j : Cursor) → IsAnyAllowed x k w a j → is_freed_by number a r ≡ false
 allowed_frees number x k w a r j A = elim A [
   | inl O ↦ elim O.0 [
     | inl U ↦ frees_not number a r (unasked_not a U)
     | inr F ↦ frees_not number a r (failed_not a F)
   ]
-  | inr B ↦ frees_not number a r (beside_not a (asked_beside x k w a j B.0))
+  | inr B ↦ frees_not number a r (beside_not a (asked_beside x k w a j B))
 ]
 
 pub history_runs : (x : PlayCast) (steps : List (Act × Reply)) (k : Cursor) (w : World) (j : Cursor) (v : World) → IsFaultHistory x k w steps j v → Run w steps v
@@ -137,6 +137,11 @@ given_alike number (g ∷ given) =
     (λ f. ap (notes_to number) (given_out number g given f) ∙ (r ∙ sym (ap without_faults (to_other number g given t))))
     (λ f. ap (notes_to number) (given_in_both number g given f) ∙ (to_other number g (given_without given) t ∙ (r ∙ sym (ap without_faults (to_other number g given t))))))
 
+-- read without faults, a component has told what its client was given
+pub given_heard : (ss : List Stream) (w : World) (c : Component) → IsAlike (heard (inside (mend ss w)) (taken_in (mended c))) (progress_by (notes_given (number_of c) w) no_progress)
+given_heard ss w c = subst (λ (ns : List Note). IsAlike (progress_by ns no_progress) (progress_by (notes_given (number_of c) w) no_progress)) (sym (given_alike (number_of c) w.given))
+    (without_alike (notes_given (number_of c) w) no_progress no_progress (record { state = refl; eos = refl; settings = refl; port = refl }))
+
 -- ---- in the world to which a history leads
 
 module _ (x : PlayCast) (k : Cursor) (recent : ℕ) (p : Play) (ss : List Stream) (w : World) (D : IsFaulty x k recent p ss w) (steps : List (Act × Reply)) (j : Cursor) (v : World) (H : IsFaultHistory x k w steps j v) where
@@ -145,10 +150,13 @@ module _ (x : PlayCast) (k : Cursor) (recent : ℕ) (p : Play) (ss : List Stream
       let B = all_faulty x steps k recent p ss w j v D H in
       let number : number_of c ≡ i = in_place x j B.recent B.now B.later v ((B.faulty).taken).played i c e in
       let given : notes_given i v ≡ given_in i steps = run_given w v steps i D.sound (history_runs x steps k w j v H) (history_frees i x steps k w j v H) ∙ ap (λ (gs : List Given). notes_to i gs ++ given_in i steps) none in
-      let read : notes_given (number_of c) (inside (mend v.streams v)) ≡ without_faults (given_in i steps) =
-      ap (λ (n : ℕ). notes_to n (given_without v.given)) number ∙ (given_alike i v.given ∙ ap without_faults given) in
-      subst (λ (ns : List Note). IsAlike (progress_by ns no_progress) (progress_by (given_in i steps) no_progress)) (sym read)
-      (without_alike (given_in i steps) no_progress no_progress (record { state = refl; eos = refl; settings = refl; port = refl }))
+      subst (λ (ns : List Note). IsAlike (heard (inside (mend v.streams v)) (taken_in (mended c))) (progress_by ns no_progress)) (ap (λ (n : ℕ). notes_given n v) number ∙ given) (given_heard v.streams v c)
+
+-- over one act a client is given what the act gives
+pub one_given : (x : PlayCast) (k : Cursor) (recent : ℕ) (p : Play) (ss : List Stream) (w : World) → IsFaulty x k recent p ss w → (a : Act) (r : Reply) (v : World) (j : Cursor) → Meets w a → Step w a r v → IsAnyAllowed x k (inside (mend w.streams w)) a j
+    → (i : ℕ) → notes_given i v ≡ notes_given i w ++ given_in i ((a, r) ∷ [])
+one_given x k recent p ss w D a r v j m s A i =
+    run_given w v ((a, r) ∷ []) i D.sound (v, m, s, refl) (All-cons (λ (y : Act × Reply). is_freed_by i y.0 y.1 ≡ false) (a, r) [] (allowed_frees i x k (inside (mend w.streams w)) a r j A) (All-nil _))
 
 -- ---- handles
 
@@ -160,7 +168,7 @@ named_at h w c e = by (place_of h w.components) refl e
     by (Some i) p f = (i, p, f)
 
 module _ (x : PlayCast) (k : Cursor) (recent : ℕ) (p : Play) (ss : List Stream) (w : World) (D : IsFaulty x k recent p ss w) where
-  one_named : (a : Act) (r : Reply) (v : World) (j : Cursor) → Meets w a → Step w a r v → IsAnyAllowed x k (inside (mend w.streams w)) a r j → (h : Handle) (i : ℕ) → place_of h w.components ≡ Some i → place_of h v.components ≡ Some i
+  one_named : (a : Act) (r : Reply) (v : World) (j : Cursor) → Meets w a → Step w a r v → IsAnyAllowed x k (inside (mend w.streams w)) a j → (h : Handle) (i : ℕ) → place_of h w.components ≡ Some i → place_of h v.components ≡ Some i
   one_named a r v j m s A h i e =
       let t = passes_at (is_at h) w.components i (sym (is_first_place (is_at h) w.components) ∙ e) in
       let c : Component = t.0 in

@@ -120,7 +120,7 @@ module _ (x : PlayCast) (k : Cursor) (recent : ℕ) (p : Play) (ss : List Stream
   failed_whole _ r v l O m s = absurd O
 
   -- it stays so over each act
-  pub whole_on : (a : Act) (r : Reply) (v : World) (j : Cursor) → Meets w a → Step w a r v → IsAnyAllowed x k (inside (mend w.streams w)) a r j → (3 ≤ k.phase → NoneFailed w) → 3 ≤ j.phase → NoneFailed v
+  pub whole_on : (a : Act) (r : Reply) (v : World) (j : Cursor) → Meets w a → Step w a r v → IsAnyAllowed x k (inside (mend w.streams w)) a j → (3 ≤ k.phase → NoneFailed w) → 3 ≤ j.phase → NoneFailed v
   whole_on a r v j m s A N l = elim A [
     | inl O ↦
         let e : j.phase ≡ k.phase = ap (λ (z : Cursor). z.phase) O.1 in
@@ -129,7 +129,7 @@ module _ (x : PlayCast) (k : Cursor) (recent : ℕ) (p : Play) (ss : List Stream
           | inl U ↦ none_on w v (unasked_whole a r v n U m s) (N n)
           | inr F ↦ absurd (failed_whole a r v n F m s)
         ]
-    | inr B ↦ none_on w v (beside_stay w a r v (asked_beside x k (inside (mend w.streams w)) a j B.0) s).failed (asked_whole a j (asked_so x (inside (mend w.streams w)) ss k a j B.0) N l)
+    | inr B ↦ none_on w v (beside_stay w a r v (asked_beside x k (inside (mend w.streams w)) a j B) s).failed (asked_whole a j (asked_so x (inside (mend w.streams w)) ss k a j B) N l)
   ]
 
 -- and so over each history

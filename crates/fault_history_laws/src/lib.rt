@@ -3,11 +3,11 @@
 //! stand on it.
 #![tactic(auto)]
 
-ghost use Rattle.std.specs.Prelude.{List, Some, [], slice_get, ◌≡◌, ◌≤◌, ℕ};
+ghost use Rattle.std.specs.Prelude.{All, List, Some, [], slice_get, ◌≡◌, ◌≤◌, ◌⊎◌, ℕ};
 ghost use Rattle.omx_types.specs.declared.handle.Handle.{Handle};
 ghost use Rattle.il_machine.specs.Acts.{Act, Reply};
 ghost use Rattle.il_machine.specs.Components.{no_progress};
-ghost use Rattle.il_machine.specs.Run.{Meets, Step};
+ghost use Rattle.il_machine.specs.Run.{Meets, Run, Step};
 ghost use Rattle.il_machine.specs.Sound.{Sound};
 ghost use Rattle.il_machine.specs.World.{Component, Stream, World, place_of};
 ghost use Rattle.history_laws.specs.GivenIn.{given_in};
@@ -22,12 +22,13 @@ ghost use Rattle.play_stream_laws.specs.PlayStreams.{HasPlayStreams};
 ghost use Rattle.read_world_laws.specs.Inside.{inside, taken_in};
 ghost use Rattle.read_world_laws.specs.Mended.{mend, mended};
 ghost use Rattle.play_history_laws.specs.Following.{IsLoadedAt, IsTaken};
-ghost use Rattle.play_history_laws.specs.Order.{Cursor};
-ghost use Rattle.fault_history_laws.specs.Faults.{HasFaulted, HasFaultStreams, IsAnyAllowed, IsFaultHistory, IsFaulty, IsFresh, NoneFailed};
+ghost use Rattle.play_history_laws.specs.Histories.{IsUnasked};
+ghost use Rattle.play_history_laws.specs.Order.{Cursor, IsAsked};
+ghost use Rattle.fault_history_laws.specs.Faults.{HasFaulted, HasFaultStreams, IsAccepted, IsAnyAllowed, IsFailedStep, IsFaultHistory, IsFaulty, IsFresh, NoneFailed};
 ghost use Rattle.fault_history_laws.specs.Telling.{IsAlike};
 
 /// A world in which nothing failed, was told or is out is read as it is. Each act that is allowed, a step that fails too, leads from a
-/// world of the play to one, and so does each history. Where all was asked and the world is at rest the play is over. From the second Idle
+/// world of the play to one, and so does each history; steps that nobody need ask for are one. What is asked is accepted. Where all was asked and the world is at rest the play is over. From the second Idle
 /// on no step has failed, and each sink's file has taken what is written of its whole stream; at each moment a front of that, also where
 /// its step failed.
 pub fn law_of_fault_histories()
@@ -37,12 +38,17 @@ pub fn law_of_fault_histories()
         → IsFresh world → HasPlayStreams cast contents play (inside world) → HasFaultStreams cast contents stream play world.streams world }
     ensures one { (cast : PlayCast) (cursor : Cursor) (recent : ℕ) (play : Play) (streams : List Stream) (world : World)
         → IsFaulty cast cursor recent play streams world → (act : Act) (reply : Reply) (after : World) (next : Cursor)
-        → Meets world act → Step world act reply after → IsAnyAllowed cast cursor (inside (mend world.streams world)) act reply next
-        → HasFaulted cast next play streams world after }
+        → Meets world act → Step world act reply after → IsAnyAllowed cast cursor (inside (mend world.streams world)) act next
+        → HasFaulted cast cursor recent play next streams world after }
     ensures comes { (cast : PlayCast) (steps : List (Act × Reply)) (cursor : Cursor) (recent : ℕ) (play : Play) (streams : List Stream) (world : World)
         (next : Cursor) (after : World)
         → IsFaulty cast cursor recent play streams world → IsFaultHistory cast cursor world steps next after
-        → HasFaulted cast next play streams world after }
+        → HasFaulted cast cursor recent play next streams world after }
+    ensures accepted { (cast : PlayCast) (cursor : Cursor) (recent : ℕ) (play : Play) (streams : List Stream) (world : World)
+        → IsFaulty cast cursor recent play streams world → (act : Act) (reply : Reply) (after : World) (next : Cursor)
+        → Step world act reply after → IsAsked cast cursor (inside (mend world.streams world)) act next → IsAccepted reply }
+    ensures stays { (cast : PlayCast) (steps : List (Act × Reply)) (cursor : Cursor) (world after : World)
+        → Run world steps after → All (λ step. IsUnasked step.0 ⊎ IsFailedStep step.0) steps → IsFaultHistory cast cursor world steps cursor after }
     ensures over { (cast : PlayCast) (cursor : Cursor) (recent : ℕ) (play : Play) (streams : List Stream) (world : World)
         → IsFaulty cast cursor recent play streams world → cursor.phase ≡ 4
         → ((place : ℕ) (component : Component) → slice_get world.components place ≡ Some component → IsLoadedAt component)

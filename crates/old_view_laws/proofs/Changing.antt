@@ -1,5 +1,5 @@
 -- The steps of a change that a conductor answers by old views can be made.
-use Rattle.std.proofs.Common.{◌≡◌, ◌≢◌, inl, inr, ℕ, zero, suc, ◌+◌, ◌<◌, ◌≤◌, true, false, slice_get, Some, refl, sym, ◌∙◌, ap, subst, arith}
+use Rattle.std.proofs.Common.{◌≡◌, ◌≢◌, inl, inr, ℕ, ◌+◌, ◌<◌, ◌≤◌, true, false, slice_get, Some, refl, sym, ◌∙◌, ap, subst, arith}
 use Rattle.std.proofs.lemmas.Bool.{cases_eq}
 use Rattle.std.specs.Prelude.{slice_set}
 use Rattle.il_machine.specs.World.{World}
@@ -14,9 +14,9 @@ use Rattle.conductor.specs.Phases.{Conducts, IsChangeDue, IsStep, is_changed, is
 use Rattle.play_model.specs.Acts.{Act, CanAct}
 use Rattle.play_model.specs.Changes.{IsInOrder}
 use Rattle.play_model.specs.Play.{Play}
-use Rattle.play_world_laws.specs.Cast.{components_of, giver_of, links_of, script_place}
+use Rattle.play_world_laws.specs.Cast.{components_of}
 use Rattle.play_world_laws.specs.PlayWorlds.{IsPlayWorld, PlayCast}
-use Rattle.play_turn_laws.specs.Conducting.{AreCarriedOut, AreLates, IsCarriedOut, IsChangeOf, IsLateAt, IsLateOf, IsUnderWay, step_from, step_to}
+use Rattle.play_turn_laws.specs.Conducting.{AreCarriedOut, AreLates, IsCarriedOut, IsChangeOf, IsLateAt, IsLateOf, step_from, step_to}
 use Rattle.play_turn_laws.proofs.Hearing.{of_same, one_link}
 use Rattle.play_turn_laws.proofs.Keeping.{one_entry, same_source}
 use Rattle.play_turn_laws.proofs.Changing.{out_to, way_from, way_on}

@@ -22,14 +22,6 @@ pub record IsBehind (cast : Cast) (play : Play) (component : ℕ) (progress : Pr
   pub past : (output : Bool) (link : ℕ) → link < links_of cast → component_at cast.layout output link ≡ component → (cast.layout).is_late link ≡ true
       → IsPast (port_at output (play.change link)) (port_number cast output link) progress.port
 
--- a play that has gone on without a StateSet being begun
-pub record IsLater (before after : Play) : Type 0 where
-  pub phase : after.phase ≡ before.phase
-  pub stage : (component : ℕ) → before.stage component ≤ after.stage component
-  pub told : (component : ℕ) → before.told component ≡ true → after.told component ≡ true
-  pub step : (link : ℕ) → (before.change link).step ≤ (after.change link).step
-  pub ports : (output : Bool) (link : ℕ) → port_at output (before.change link) ≤ port_at output (after.change link)
-
 -- It knows no more than is so, and each step that it answered is carried out.
 pub record IsOld (cast : Cast) (recent : ℕ) (play : Play) (value : ConductorValue) : Type 0 where
   pub conducting : IsPlayConducting cast recent play value

@@ -35,10 +35,11 @@ use Rattle.play_stream_laws.specs.PlayStreams.{HasPlayStreams}
 use Rattle.play_stream_laws.proofs.Beginning.{begun_streams}
 use Rattle.play_stream_laws.proofs.Changing.{dropped_streams, joined_streams, sent_streams, set_streams}
 use Rattle.play_stream_laws.proofs.Components.{send_streams}
-use Rattle.play_history_laws.specs.Following.{Follows, IsPlayed, IsTurn}
+use Rattle.play_history_laws.specs.Following.{Follows, GoesTo, IsPlayed, IsTurn}
 use Rattle.play_history_laws.specs.Order.{Begins, Changes, ChangesOn, Cursor, GoesOn, IsAsked, IsChangeAct, one_more}
 use Rattle.play_history_laws.proofs.Following.{begins_first, conducts_on, follows_on, sends_on}
 use Rattle.play_history_laws.proofs.Moving.{IsMoved, closes}
+use Rattle.play_history_laws.proofs.Onward.{goes_begun, goes_changed, goes_sent, goes_through, goes_unasked}
 use Rattle.play_history_laws.proofs.Told.{all_told, can_begin, can_change, can_change_on, links_done}
 use Rattle.play_history_laws.proofs.Coming.{HasCome}
 
@@ -70,21 +71,22 @@ module _ (x : PlayCast) (k : Cursor) (recent : ℕ) (p : Play) (w : World) (D : 
   W = D.play
 
   -- by what it leaves, where so much is asked
-  arrives : (m : Play) (later : ℕ) (v : World) (j : Cursor) → IsWaiting net m → Follows x.cast j later m → PlayLeadsTo x later m v
-      → ((c : PlayContents) (q : Play) → HasPlayStreams x c p w → IsPlayWorld x later q v → q.phase ≡ m.phase → HasPlayStreams x c q v) → HasCome x j p w v
-  arrives m later v j N F L streams =
+  arrives : (m : Play) (later : ℕ) (v : World) (j : Cursor) → IsWaiting net m → Follows x.cast j later m → GoesTo net k recent p j later m → PlayLeadsTo x later m v
+      → ((c : PlayContents) (q : Play) → HasPlayStreams x c p w → IsPlayWorld x later q v → q.phase ≡ m.phase → HasPlayStreams x c q v) → HasCome x k recent p j w v
+  arrives m later v j N F O L streams =
       let T = closes x later m v N L in
       let M : IsMoved x later m T.0 v = T.1 in
       record {
         recent = later;
         now = T.0;
         played = record { play = M.play; waiting = M.waiting; closed = M.closed; follows = follows_on x.cast j later m T.0 M.keeps F };
+        goes = goes_through net k recent p j later m j later T.0 O (goes_unasked net j later m T.0 M.keeps M.later);
         streams = λ c H. streams c T.0 H M.play (M.keeps).phase;
       }
 
   -- ---- a StateSet goes on
 
-  goes_on : (a : MachineAct) (r : Reply) (v : World) (j : Cursor) → GoesOn x.cast k w a j → Step w a r v → HasCome x j p w v
+  goes_on : (a : MachineAct) (r : Reply) (v : World) (j : Cursor) → GoesOn x.cast k w a j → Step w a r v → HasCome x k recent p j w v
   goes_on a r v j G s =
       let F = D.follows in
       let S = G.sends in
@@ -94,13 +96,13 @@ module _ (x : PlayCast) (k : Cursor) (recent : ℕ) (p : Play) (w : World) (D : 
       let step : Step w (acts.SendCommand h (StateSet (target p.phase))) r v = subst (λ (n : ℕ). Step w (acts.SendCommand h (StateSet (target n))) r v) (sym F.phase) (subst (λ (b : MachineAct). Step w b r v) S.is s) in
       let R = sent_reply w h (StateSet (target p.phase)) r v step in
       let L = send_leads x recent p w c h R.0 v W C S.named R.1 in
-      subst (λ (i : Cursor). HasCome x i p w v) (sym G.after)
-      (arrives (acted net (Act.Send c) p) recent v (record k { sent = k.sent + 1 }) (waits_on net p (Act.Send c) W.reached C D.waiting) (sends_on x.cast W.cast_is k recent p c S.below S.there F) L.1
+      subst (λ (i : Cursor). HasCome x k recent p i w v) (sym G.after)
+      (arrives (acted net (Act.Send c) p) recent v (record k { sent = k.sent + 1 }) (waits_on net p (Act.Send c) W.reached C D.waiting) (sends_on x.cast W.cast_is k recent p c S.below S.there F) (goes_sent net k recent p c C) L.1
       (λ y q H V e. send_streams x y recent recent p q w v W H V e c h S.below S.named R.0 R.1))
 
   -- ---- the next one begins
 
-  begins_so : (a : MachineAct) (r : Reply) (v : World) (j : Cursor) → Begins x.cast k w a j → Step w a r v → HasCome x j p w v
+  begins_so : (a : MachineAct) (r : Reply) (v : World) (j : Cursor) → Begins x.cast k w a j → Step w a r v → HasCome x k recent p j w v
   begins_so a r v j G s =
       let F = D.follows in
       let S = G.sends in
@@ -114,9 +116,9 @@ module _ (x : PlayCast) (k : Cursor) (recent : ℕ) (p : Play) (w : World) (D : 
       let R = sent_reply w h (StateSet (target m.phase)) r v step in
       let L = send_leads x recent m w c h R.0 v U C S.named R.1 in
       let N : IsWaiting net m = waits_on net p Act.Begin W.reached B D.waiting in
-      subst (λ (i : Cursor). HasCome x i p w v) (sym G.after)
+      subst (λ (i : Cursor). HasCome x k recent p i w v) (sym G.after)
       (arrives (acted net (Act.Send c) m) recent v (record { phase = k.phase + 1; sent = 1; made = k.made; changing = None }) (waits_on net m (Act.Send c) U.reached C N)
-      (begins_first x.cast W.cast_is k recent p c S.below S.there F (links_done x recent p w W k F G.done)) L.1
+      (begins_first x.cast W.cast_is k recent p c S.below S.there F (links_done x recent p w W k F G.done)) (goes_begun net k recent p c C) L.1
       (λ y q H V e. send_streams x y recent recent m q w v U (begun_streams x y recent p w W B H) V e c h S.below S.named R.0 R.1))
 
   -- ---- an act of a change
@@ -152,7 +154,7 @@ module _ (x : PlayCast) (k : Cursor) (recent : ℕ) (p : Play) (w : World) (D : 
   conducted_at l (suc (suc (suc (suc (suc (suc (suc (suc n)))))))) a r v C e z s = absurd z
 
   -- the change begins
-  changes : (a : MachineAct) (r : Reply) (v : World) (j : Cursor) → Changes x k w a j → Step w a r v → HasCome x j p w v
+  changes : (a : MachineAct) (r : Reply) (v : World) (j : Cursor) → Changes x k w a j → Step w a r v → HasCome x k recent p j w v
   changes a r v j G s =
       let F = D.follows in
       let l : ℕ = G.link in
@@ -160,13 +162,13 @@ module _ (x : PlayCast) (k : Cursor) (recent : ℕ) (p : Play) (w : World) (D : 
       let L = conducted_at l 0 a r v Q.0 Q.1 G.its_act s in
       let none = G.unchanged in
       let two = G.phase in
-      subst (λ (i : Cursor). HasCome x i p w v) (sym G.after)
+      subst (λ (i : Cursor). HasCome x k recent p i w v) (sym G.after)
       (arrives (acted net (Act.Conduct l) p) l v (one_more l k) (waits_on net p (Act.Conduct l) W.reached Q.0 D.waiting)
-      (conducts_on x.cast k recent p l G.below G.late F G.phase (let e = Q.1 in omega (arith, e, none)) (all_told x recent p w W k F (omega (arith, two)) G.done) (λ i b t n. links_done x recent p w W k F G.done i b t)) L.0
+      (conducts_on x.cast k recent p l G.below G.late F G.phase (let e = Q.1 in omega (arith, e, none)) (all_told x recent p w W k F (omega (arith, two)) G.done) (λ i b t n. links_done x recent p w W k F G.done i b t)) (goes_changed net k recent p l Q.0) L.0
       (λ y q H V e. L.1 y q H V e))
 
   -- it goes on
-  changes_by : (o : Option ℕ) → k.changing ≡ o → IsTurn x.cast k recent p o → (a : MachineAct) (r : Reply) (v : World) (j : Cursor) → ChangesOn x k w a j → Step w a r v → HasCome x j p w v
+  changes_by : (o : Option ℕ) → k.changing ≡ o → IsTurn x.cast k recent p o → (a : MachineAct) (r : Reply) (v : World) (j : Cursor) → ChangesOn x k w a j → Step w a r v → HasCome x k recent p j w v
   changes_by None f T a r v j G s = let e : None ≡ Some G.link = sym f ∙ G.its in absurd cc
   changes_by (Some i) f T a r v j G s =
       let F = D.follows in
@@ -177,12 +179,12 @@ module _ (x : PlayCast) (k : Cursor) (recent : ℕ) (p : Play) (w : World) (D : 
       let C = can_change_on x recent p w W k F l Y.2 Y.3 Y.4 G.more G.disabled in
       let step : (p.change l).step ≡ k.made l + 2 = F.some l Y.2 Y.3 Y.4 in
       let L = conducted_at l (k.made l) a r v C step G.its_act s in
-      subst (λ (n : Cursor). HasCome x n p w v) (sym G.after)
+      subst (λ (n : Cursor). HasCome x k recent p n w v) (sym G.after)
       (arrives (acted net (Act.Conduct l) p) l v (one_more l k) (waits_on net p (Act.Conduct l) W.reached C D.waiting)
-      (conducts_on x.cast k recent p l Y.2 Y.3 F (sym F.phase ∙ Y.0) step Y.5 Y.6) L.0
+      (conducts_on x.cast k recent p l Y.2 Y.3 F (sym F.phase ∙ Y.0) step Y.5 Y.6) (goes_changed net k recent p l C) L.0
       (λ y q H V e. L.1 y q H V e))
 
-  pub asked : (a : MachineAct) (r : Reply) (v : World) (j : Cursor) → IsAsked x k w a j → Step w a r v → HasCome x j p w v
+  pub asked : (a : MachineAct) (r : Reply) (v : World) (j : Cursor) → IsAsked x k w a j → Step w a r v → HasCome x k recent p j w v
   asked a r v j A s = elim A [
     | inl G ↦ goes_on a r v j G s
     | inr B ↦ elim B [

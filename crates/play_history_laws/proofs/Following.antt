@@ -63,16 +63,16 @@ module _ (x : Cast) (C : IsCast x) (k : Cursor) (recent : ℕ) (p : Play) (c : �
 
 -- ---- one act more of a change
 
-made_here : (k : Cursor) (l : ℕ) → (one_more l k).made l ≡ k.made l + 1
+pub made_here : (k : Cursor) (l : ℕ) → (one_more l k).made l ≡ k.made l + 1
 made_here k l = at_one (λ (n : ℕ). n ≡ k.made l + 1) l l (k.made l + 1) (k.made l) (λ e. refl) (λ n. absurd (n refl))
 
-made_else : (k : Cursor) (l j : ℕ) → j ≢ l → (one_more l k).made j ≡ k.made j
+pub made_else : (k : Cursor) (l j : ℕ) → j ≢ l → (one_more l k).made j ≡ k.made j
 made_else k l j n = at_one (λ (m : ℕ). m ≡ k.made j) j l (k.made j + 1) (k.made j) (λ e. absurd (n e)) (λ n. refl)
 
 step_here : (p : Play) (l : ℕ) → ((with_change l conducted p).change l).step ≡ (p.change l).step + 1
 step_here p l = at_one (λ (z : Change). z.step ≡ (p.change l).step + 1) l l (conducted (p.change l)) (p.change l) (λ e. refl) (λ n. absurd (n refl))
 
-change_else : (p : Play) (l j : ℕ) → j ≢ l → (with_change l conducted p).change j ≡ p.change j
+pub change_else : (p : Play) (l j : ℕ) → j ≢ l → (with_change l conducted p).change j ≡ p.change j
 change_else p l j n = at_one (λ (z : Change). z ≡ p.change j) j l (conducted (p.change j)) (p.change j) (λ e. absurd (n e)) (λ n. refl)
 
 module _ (x : Cast) (k : Cursor) (recent : ℕ) (p : Play) (l : ℕ) (b : l < links_of x) (t : (x.layout).is_late l ≡ true) where

@@ -13,6 +13,7 @@ use Rattle.play_history_laws.specs.Histories.{IsAllowed}
 use Rattle.play_history_laws.specs.Order.{Cursor, nothing_asked}
 use Rattle.play_history_laws.proofs.Asked.{asked}
 use Rattle.play_history_laws.proofs.Following.{follows_on}
+use Rattle.play_history_laws.proofs.Onward.{goes_unasked}
 use Rattle.play_history_laws.proofs.Unasked.{unasked}
 use Rattle.play_history_laws.proofs.Coming.{HasCome}
 
@@ -32,15 +33,16 @@ begins_played x recent w W N Z = record {
   };
 }
 
-pub one_act : (x : PlayCast) (k : Cursor) (recent : ℕ) (p : Play) (w : World) (a : Act) (r : Reply) (v : World) (j : Cursor) → IsPlayed x k recent p w → Meets w a → Step w a r v → IsAllowed x k w a j → HasCome x j p w v
+pub one_act : (x : PlayCast) (k : Cursor) (recent : ℕ) (p : Play) (w : World) (a : Act) (r : Reply) (v : World) (j : Cursor) → IsPlayed x k recent p w → Meets w a → Step w a r v → IsAllowed x k w a j → HasCome x k recent p j w v
 one_act x k recent p w a r v j D m s A = elim A [
   | inl O ↦
       let T = unasked x recent p w D.play D.waiting D.closed a r v O.0 m s in
       let M = T.1 in
-      subst (λ (i : Cursor). HasCome x i p w v) (sym O.1) (record {
+      subst (λ (i : Cursor). HasCome x k recent p i w v) (sym O.1) (record {
         recent = recent;
         now = T.0;
         played = record { play = M.play; waiting = M.waiting; closed = M.closed; follows = follows_on x.cast k recent p T.0 M.keeps D.follows };
+        goes = goes_unasked (x.cast).layout k recent p T.0 M.keeps M.later;
         streams = T.2;
       })
   | inr B ↦ asked x k recent p w D a r v j B s

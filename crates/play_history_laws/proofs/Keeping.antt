@@ -146,7 +146,7 @@ workers_back l (HandBack k) h = tt
 workers_back l (HandUnused k) h = tt
 workers_back l _ h = absurd h
 
-workers_happening : (a : Act) → IsHappening a → IsWorkers a
+pub workers_happening : (a : Act) → IsHappening a → IsWorkers a
 workers_happening (Happen c) h = tt
 workers_happening (HappenPort l o) h = tt
 workers_happening Begin h = absurd h

@@ -1,11 +1,12 @@
 pub mod Coming
 pub mod Replies
 pub mod Keeping
+pub mod Following
+pub mod Onward
 pub mod Moving
 pub mod Ports
 pub mod Unasked
 pub mod Told
-pub mod Following
 pub mod Asked
 pub mod Histories
 pub mod Ends

@@ -34,8 +34,9 @@ use Rattle.read_world_laws.proofs.Inside.{after_closed, back_in_same, between, e
 use Rattle.read_world_laws.proofs.Steps.{beside_meets}
 use Rattle.play_history_laws.specs.Histories.{IsAllowed, IsPlayHistory, IsUnasked}
 use Rattle.play_history_laws.specs.Order.{Cursor, IsAsked, IsChangeAct, nothing_asked}
-use Rattle.play_history_laws.specs.Following.{HasTaken, IsPlayed, IsTaken}
+use Rattle.play_history_laws.specs.Following.{GoesTo, HasTaken, IsPlayed, IsTaken}
 use Rattle.play_history_laws.proofs.Histories.{begins_played, one_act}
+use Rattle.play_history_laws.proofs.Onward.{goes_nowhere, goes_through}
 use Rattle.play_history_laws.proofs.Replies.{unnamed}
 use Rattle.play_history_laws.proofs.Unasked.{looked_stays, named_at}
 use Rattle.play_history_laws.proofs.Coming.{HasCome}
@@ -72,30 +73,33 @@ asked_beside x k w a j A = elim A [
   ]
 ]
 
-component_there : (w : World) (h : Handle) (i : ℕ) → place_of h w.components ≡ Some i → (c : Component) × (slice_get w.components i ≡ Some c)
+pub component_there : (w : World) (h : Handle) (i : ℕ) → place_of h w.components ≡ Some i → (c : Component) × (slice_get w.components i ≡ Some c)
 component_there w h i e = let z = passes_at (is_at h) w.components i (sym (is_first_place (is_at h) w.components) ∙ e) in (z.0, z.1)
 
 -- ---- one act
 
 module _ (x : PlayCast) (k : Cursor) (recent : ℕ) (p : Play) (w : World) (D : IsTaken x k recent p w) where
-  came_in : (v : World) (j : Cursor) → IsClosed v → HasCome x j p (inside w) (inside v) → HasTaken x j p w v
-  came_in v j Z H = record { recent = H.recent; now = H.now; taken = record { played = H.played; closed = Z }; streams = H.streams }
+  came_in : (v : World) (j : Cursor) → IsClosed v → HasCome x k recent p j (inside w) (inside v) → HasTaken x k recent p j w v
+  came_in v j Z H = record { recent = H.recent; now = H.now; taken = record { played = H.played; closed = Z }; goes = H.goes; streams = H.streams }
+
+  nowhere : GoesTo (x.cast).layout k recent p k recent p
+  nowhere = goes_nowhere (x.cast).layout k recent p
 
   -- read so the world stays
-  stays_in : (v : World) → IsClosed v → inside v ≡ inside w → HasTaken x k p w v
-  stays_in v Z e = came_in v k Z (subst (λ (u : World). HasCome x k p (inside w) u) (sym e) (record { recent = recent; now = p; played = D.played; streams = λ c H. H }))
+  stays_in : (v : World) → IsClosed v → inside v ≡ inside w → HasTaken x k recent p k w v
+  stays_in v Z e = came_in v k Z (subst (λ (u : World). HasCome x k recent p k (inside w) u) (sym e) (record { recent = recent; now = p; played = D.played; goes = nowhere; streams = λ c H. H }))
 
-  stays_so : (v : World) → v ≡ w → HasTaken x k p w v
+  stays_so : (v : World) → v ≡ w → HasTaken x k recent p k w v
   stays_so v e = stays_in v (subst IsClosed (sym e) D.closed) (ap inside e)
 
-  beside : (a : Act) (r : Reply) (v : World) (j : Cursor) → IsBeside a → Meets w a → Step w a r v → IsAllowed x k (inside w) a j → HasTaken x j p w v
+  beside : (a : Act) (r : Reply) (v : World) (j : Cursor) → IsBeside a → Meets w a → Step w a r v → IsAllowed x k (inside w) a j → HasTaken x k recent p j w v
   beside a r v j B m s A = came_in v j (step_closed w a r v D.closed s) (one_act x k recent p (inside w) a r (inside v) j D.played (beside_meets w (inside w) a B m) (step_in w a r v B s) A)
 
   -- ---- a note is taken
 
   module _ (h : Handle) (i : ℕ) (n : place_of h w.components ≡ Some i) (c : Component) (e : slice_get w.components i ≡ Some c) where
     -- an event: it is taken, and its client object comes back
-    event_taken : (event : Event) → c.client_out ≡ false → slice_get c.notes 0 ≡ Some (notes.Told event) → (v : World) → ClosesTo (with_given i c (notes.Told event) w) v → HasTaken x k p w v
+    event_taken : (event : Event) → c.client_out ≡ false → slice_get c.notes 0 ≡ Some (notes.Told event) → (v : World) → ClosesTo (with_given i c (notes.Told event) w) v → HasTaken x k recent p k w v
     event_taken event o f v C =
         let u : World = with_given i c (notes.Told event) w in
         let U = after_closed w i c event e h n o f D.closed in
@@ -106,9 +110,15 @@ module _ (x : PlayCast) (k : Cursor) (recent : ℕ) (p : Play) (w : World) (D : 
         let named : component_named h mid.components ≡ Some d = ap (option_and_then (slice_get mid.components)) (named_between w i c event e h n o f D.closed) ∙ there_between w i c event e h n o f D.closed in
         let m : Meets mid (acts.EndNote h (progress_of d mid)) = is_there (component_named h mid.components) (λ y. (y.client_out ≡ true) × (progress_of d mid ≡ progress_of y mid)) d named (refl, refl) in
         let B = one_act x k A.recent A.now mid (acts.EndNote h (progress_of d mid)) acts.Ended (inside u) k A.played m (ends_so w i c event e h n o f D.closed) (inl (tt, refl)) in
-        subst (λ (y : World). HasTaken x k p w y) (sym is) (record { recent = B.recent; now = B.now; taken = record { played = B.played; closed = U }; streams = λ y H. B.streams y (A.streams y H) })
+        subst (λ (y : World). HasTaken x k recent p k w y) (sym is) (record {
+          recent = B.recent;
+          now = B.now;
+          taken = record { played = B.played; closed = U };
+          goes = goes_through (x.cast).layout k recent p k A.recent A.now k B.recent B.now A.goes B.goes;
+          streams = λ y H. B.streams y (A.streams y H);
+        })
 
-    takes : (result : Result Took OmxError) (v : World) → TakeFrom w i c c.client_out (slice_get c.notes 0) result v → HasTaken x k p w v
+    takes : (result : Result Took OmxError) (v : World) → TakeFrom w i c c.client_out (slice_get c.notes 0) result v → HasTaken x k recent p k w v
     takes result v s = by c.client_out (slice_get c.notes 0) refl refl s
       where
         no_header : (note : Note) → c.client_out ≡ false → slice_get c.notes 0 ≡ Some note → is_event note ≡ true
@@ -118,14 +128,14 @@ module _ (x : PlayCast) (k : Cursor) (recent : ℕ) (p : Play) (w : World) (D : 
             subst (λ (y : ℕ). slice_get (inside w).components y ≡ Some (taken_in c)) (let q : Some i ≡ Some (script_place x.cast I.component) = sym (place_in h w.components ∙ n) ∙ I.named in cc) (get_in w.components i c e) in
             an_event x recent p (inside w) (D.played).play I.component I.below (taken_in c) at (((D.played).play).actors I.component (taken_in c) I.below at) note refl f
 
-        by : (out : Bool) (first : Option Note) → c.client_out ≡ out → slice_get c.notes 0 ≡ first → TakeFrom w i c out first result v → HasTaken x k p w v
+        by : (out : Bool) (first : Option Note) → c.client_out ≡ out → slice_get c.notes 0 ≡ first → TakeFrom w i c out first result v → HasTaken x k recent p k w v
         by true first o f r = stays_so v r.1
         by false None o f r = stays_so v r.1
         by false (Some (notes.Told event)) o f r = event_taken event o f v r.1
         by false (Some (notes.EmptyDone number)) o f r = let z : false ≡ true = no_header (notes.EmptyDone number) o f in absurd cc
         by false (Some (notes.FillDone number)) o f r = let z : false ≡ true = no_header (notes.FillDone number) o f in absurd cc
 
-  takes_note : (h : Handle) (result : Result Took OmxError) (v : World) → TakeNote w h result v → HasTaken x k p w v
+  takes_note : (h : Handle) (result : Result Took OmxError) (v : World) → TakeNote w h result v → HasTaken x k recent p k w v
   takes_note h result v s = elim (none_or_some (place_of h w.components)) [
     | inl e ↦ stays_so v (unnamed (place_of h w.components) _ e s).1
     | inr z ↦
@@ -135,7 +145,7 @@ module _ (x : PlayCast) (k : Cursor) (recent : ℕ) (p : Play) (w : World) (D : 
 
   -- ---- all
 
-  unasked_in : (a : Act) (r : Reply) (v : World) → IsUnasked a → Meets w a → Step w a r v → HasTaken x k p w v
+  unasked_in : (a : Act) (r : Reply) (v : World) → IsUnasked a → Meets w a → Step w a r v → HasTaken x k recent p k w v
   unasked_in (acts.RunCommand h) r v O m s = beside (acts.RunCommand h) r v k tt m s (inl (O, refl))
   unasked_in (acts.Claim h) r v O m s = beside (acts.Claim h) r v k tt m s (inl (O, refl))
   unasked_in (acts.Finish done) acts.Finished v O m s =
@@ -168,21 +178,27 @@ module _ (x : PlayCast) (k : Cursor) (recent : ℕ) (p : Play) (w : World) (D : 
   unasked_in acts.Preempt r v O m s = absurd O
   unasked_in _ _ v O m s = absurd s
 
-  pub one_taken : (a : Act) (r : Reply) (v : World) (j : Cursor) → Meets w a → Step w a r v → IsAllowed x k (inside w) a j → HasTaken x j p w v
+  pub one_taken : (a : Act) (r : Reply) (v : World) (j : Cursor) → Meets w a → Step w a r v → IsAllowed x k (inside w) a j → HasTaken x k recent p j w v
   one_taken a r v j m s A = elim A [
-    | inl O ↦ subst (λ (i : Cursor). HasTaken x i p w v) (sym O.1) (unasked_in a r v O.0 m s)
+    | inl O ↦ subst (λ (i : Cursor). HasTaken x k recent p i w v) (sym O.1) (unasked_in a r v O.0 m s)
     | inr B ↦ beside a r v j (asked_beside x k (inside w) a j B) m s (inr B)
   ]
 
 -- ---- a history
 
-pub all_taken : (x : PlayCast) (steps : List (Act × Reply)) (k : Cursor) (recent : ℕ) (p : Play) (w : World) (j : Cursor) (v : World) → IsTaken x k recent p w → IsPlayHistory x k w steps j v → HasTaken x j p w v
+pub all_taken : (x : PlayCast) (steps : List (Act × Reply)) (k : Cursor) (recent : ℕ) (p : Play) (w : World) (j : Cursor) (v : World) → IsTaken x k recent p w → IsPlayHistory x k w steps j v → HasTaken x k recent p j w v
 all_taken x [] k recent p w j v D (e, f) =
-    subst (λ (i : Cursor). HasTaken x i p w v) (sym e) (subst (λ (u : World). HasTaken x k p w u) (sym f) (record { recent = recent; now = p; taken = D; streams = λ c H. H }))
+    subst (λ (i : Cursor). HasTaken x k recent p i w v) (sym e) (subst (λ (u : World). HasTaken x k recent p k w u) (sym f) (record { recent = recent; now = p; taken = D; goes = goes_nowhere (x.cast).layout k recent p; streams = λ c H. H }))
 all_taken x (step ∷ steps) k recent p w j v D (i, mid, m, s, A, rest) =
     let B = one_taken x k recent p w D step.0 step.1 mid i m s A in
     let C = all_taken x steps i B.recent B.now mid j v B.taken rest in
-    record { recent = C.recent; now = C.now; taken = C.taken; streams = λ c H. C.streams c (B.streams c H) }
+    record {
+      recent = C.recent;
+      now = C.now;
+      taken = C.taken;
+      goes = goes_through (x.cast).layout k recent p i B.recent B.now j C.recent C.now B.goes C.goes;
+      streams = λ c H. C.streams c (B.streams c H);
+    }
 
 -- ---- where nothing was asked
 

@@ -1,5 +1,5 @@
 -- What the clients have heard says how far the play is.
-use Rattle.std.proofs.Common.{◌≡◌, ◌⊎◌, inl, inr, ℕ, zero, suc, ◌<◌, ◌≤◌, Bool, true, false, Option, Some, None, is_some, refl, sym, ◌∙◌, ap, subst, leb-true, le-leb, arith}
+use Rattle.std.proofs.Common.{◌≡◌, ◌⊎◌, inl, inr, ℕ, zero, suc, ◌<◌, ◌≤◌, Bool, true, false, Option, Some, None, is_some, refl, sym, ◌∙◌, ap, subst, leb-true, arith}
 use Rattle.std.proofs.lemmas.Bool.{cases_eq}
 use Rattle.omx_types.specs.declared.command.Completion.TheVariants as completions
 use Rattle.il_machine.specs.declared.answer.Progress.{Progress}
@@ -7,7 +7,7 @@ use Rattle.il_machine.specs.World.{World}
 use Rattle.play_model.specs.Acts.{Act, CanAct}
 use Rattle.play_model.specs.Changes.{IsChanged, IsInOrder, port_at}
 use Rattle.play_model.specs.Play.{Play, component_at}
-use Rattle.play_world_laws.specs.Cast.{components_of, giver_of, links_of, script_place}
+use Rattle.play_world_laws.specs.Cast.{components_of, giver_of, links_of}
 use Rattle.play_world_laws.specs.Standing.{target}
 use Rattle.play_world_laws.specs.Telling.{heard, last_told}
 use Rattle.play_world_laws.specs.PlayWorlds.{HasHeard, IsPlayWorld, PlayCast, port_number}

@@ -1,10 +1,11 @@
 -- How a play stands by what was asked, and what each act of a history leaves.
-use Rattle.std.specs.Prelude.{◌≡◌, ◌≢◌, ◌⊎◌, ℕ, ◌+◌, ◌<◌, ◌≤◌, true, [], Option, Some, None}
+use Rattle.std.specs.Prelude.{◌≡◌, ◌≢◌, ◌⊎◌, ℕ, ◌+◌, ◌<◌, ◌≤◌, Bool, true, [], Option, Some, None}
 use Rattle.omx_types.specs.declared.state.State.TheVariants.{Loaded}
 use Rattle.il_machine.specs.Due.{IsClosed}
 use Rattle.il_machine.specs.World.{Component, World}
-use Rattle.play_model.specs.Changes.{IsChanged}
-use Rattle.play_model.specs.Play.{Play}
+use Rattle.play_model.specs.Acts.{Act, acted}
+use Rattle.play_model.specs.Changes.{Change, IsChanged, port_at}
+use Rattle.play_model.specs.Play.{Layout, Play}
 use Rattle.play_world_laws.specs.Cast.{Cast, components_of, links_of, script_place}
 use Rattle.play_stream_laws.specs.Contents.{PlayContents}
 use Rattle.play_world_laws.specs.PlayWorlds.{IsPlayWorld, PlayCast}
@@ -42,6 +43,32 @@ pub record IsTaken (cast : PlayCast) (cursor : Cursor) (recent : ℕ) (play : Pl
   pub played : IsPlayed cast cursor recent play (inside world)
   pub closed : IsClosed world
 
+-- ---- a play that goes on
+
+-- Nothing that was told is lost, and no StateSet was begun.
+pub record IsLater (before after : Play) : Type 0 where
+  pub phase : after.phase ≡ before.phase
+  pub stage : (component : ℕ) → before.stage component ≤ after.stage component
+  pub told : (component : ℕ) → before.told component ≡ true → after.told component ≡ true
+  pub step : (link : ℕ) → (before.change link).step ≤ (after.change link).step
+  pub ports : (output : Bool) (link : ℕ) → port_at output (before.change link) ≤ port_at output (after.change link)
+
+-- The conductor made no act of the change: the source may have announced its settings and told them since.
+pub record IsLeft (before after : Change) : Type 0 where
+  pub few : before.step ≤ 2 → after.step ≤ 2
+  pub more : 3 ≤ before.step → after.step ≡ before.step
+
+-- So a play goes on from where so much was asked to where so much is. What is the latest change stays so where no act of a change was made.
+pub record GoesTo (layout : Layout) (cursor : Cursor) (was : ℕ) (before : Play) (next : Cursor) (recent : ℕ) (now : Play) : Type 0 where
+  pub phases : cursor.phase ≤ next.phase
+  pub acts : (link : ℕ) → cursor.made link ≤ next.made link
+  pub later : next.phase ≡ cursor.phase → IsLater before now
+  pub begun : next.phase ≡ cursor.phase + 1 → IsLater (acted layout Act.Begin before) now
+  pub left : (link : ℕ) → next.made link ≡ cursor.made link → IsLeft (before.change link) (now.change link)
+  pub latest : ((link : ℕ) → next.made link ≡ cursor.made link) → recent ≡ was
+
+-- ---- what a history leaves
+
 -- the component is Loaded, and its client was given every note
 pub record IsLoadedAt (component : Component) : Type 0 where
   pub loaded : component.state ≡ Loaded
@@ -52,8 +79,9 @@ abbrev pub StreamsLead : PlayCast → Play → World → Play → World → Type
 StreamsLead cast before world play after = (contents : PlayContents) → HasPlayStreams cast contents before world → HasPlayStreams cast contents play after
 
 -- so it is in a world to which a history leads
-pub record HasTaken (cast : PlayCast) (cursor : Cursor) (before : Play) (world after : World) : Type 0 where
+pub record HasTaken (cast : PlayCast) (cursor : Cursor) (was : ℕ) (before : Play) (next : Cursor) (world after : World) : Type 0 where
   pub recent : ℕ
   pub now : Play
-  pub taken : IsTaken cast cursor recent now after
+  pub taken : IsTaken cast next recent now after
+  pub goes : GoesTo (cast.cast).layout cursor was before next recent now
   pub streams : StreamsLead cast before (inside world) now (inside after)

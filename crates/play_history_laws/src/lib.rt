@@ -32,9 +32,9 @@ pub fn law_of_play_histories()
         → IsTaken cast (nothing_asked cast.cast) recent opening world }
     ensures one { (cast : PlayCast) (cursor : Cursor) (recent : ℕ) (play : Play) (world : World) → IsTaken cast cursor recent play world
         → (act : Act) (reply : Reply) (after : World) (next : Cursor)
-        → Meets world act → Step world act reply after → IsAllowed cast cursor (inside world) act next → HasTaken cast next play world after }
+        → Meets world act → Step world act reply after → IsAllowed cast cursor (inside world) act next → HasTaken cast cursor recent play next world after }
     ensures comes { (cast : PlayCast) (steps : List (Act × Reply)) (cursor : Cursor) (recent : ℕ) (play : Play) (world : World) (next : Cursor) (after : World)
-        → IsTaken cast cursor recent play world → IsPlayHistory cast cursor world steps next after → HasTaken cast next play world after }
+        → IsTaken cast cursor recent play world → IsPlayHistory cast cursor world steps next after → HasTaken cast cursor recent play next world after }
     ensures over { (cast : PlayCast) (cursor : Cursor) (recent : ℕ) (play : Play) (world : World) → IsTaken cast cursor recent play world → cursor.phase ≡ 4
         → ((place : ℕ) (component : Component) → slice_get world.components place ≡ Some component → IsLoadedAt component)
         → IsOver (cast.cast).layout play }

@@ -48,6 +48,33 @@ named refuse w h result v Then s = by (place_of h w.components) refl s
     by None e r = inl r
     by (Some i) e r = let z = there_is (slice_get w.components i) (Then i) r in inr (i, z.0, e, z.1, z.2)
 
+-- ---- what is told of a StateSet that fails is no step's fault
+
+abbrev AreTellable : List (Bool × OmxError) → Type 0
+AreTellable [] = Unit {0}
+AreTellable (x ∷ xs) = (is_fault (Told (Error x.1)) ≡ false) × AreTellable xs
+
+first_tells : (xs : List (Bool × OmxError)) → AreTellable xs → (e : OmxError) → first_of_these xs ≡ Some e → is_fault (Told (Error e)) ≡ false
+first_tells [] A e h = absurd cc
+first_tells (x ∷ xs) A e h = either x.0
+    (λ t.
+    let s : Some x.1 ≡ Some e = sym (ap (λ (q : Bool). if q then Some x.1 else first_of_these xs) t) ∙ h in
+    let is : x.1 ≡ e = cc in
+    subst (λ (z : OmxError). is_fault (Told (Error z)) ≡ false) is A.0)
+    (λ t. first_tells xs A.1 e (sym (ap (λ (q : Bool). if q then Some x.1 else first_of_these xs) t) ∙ h))
+
+pub fault_tells : (l : Look) (c : Component) (target : State) (e : OmxError) → state_fault l c target ≡ Some e → is_fault (Told (Error e)) ≡ false
+fault_tells l c target e h =
+    let tests : List (Bool × OmxError) =
+    (same_state c.state target, errors.SameState)
+    ∷ (not (is_lawful c.state target), errors.IncorrectStateTransition)
+    ∷ (is_loaded c.state && not (fits c.settings), errors.UnsupportedSetting)
+    ∷ (is_loaded c.state && same_state target states.Idle && nat_lt (free_units l) (units_of c.settings.kind), errors.InsufficientResources)
+    ∷ (same_state target states.WaitForResources && has_no_wait l, errors.InsufficientResources)
+    ∷ [] in
+    let A : AreTellable tests = (refl, (refl, (refl, (refl, (refl, tt))))) in
+    first_tells tests A e h
+
 module _ (reading : Reading) (fair : IsFair reading) (streams : List Stream → List Stream) where
   abbrev twin : Component → Component
   twin c = read_component reading c
@@ -116,31 +143,6 @@ module _ (reading : Reading) (fair : IsFair reading) (streams : List Stream → 
   run_idle_in c (commands.PortDisable sel ∷ cs) = refl
   run_idle_in c (commands.PortEnable sel ∷ cs) = refl
   run_idle_in c (commands.MarkBuffer port target value ∷ cs) = refl
-
-  abbrev AreTellable : List (Bool × OmxError) → Type 0
-  AreTellable [] = Unit {0}
-  AreTellable (x ∷ xs) = (is_fault (Told (Error x.1)) ≡ false) × AreTellable xs
-
-  first_tells : (xs : List (Bool × OmxError)) → AreTellable xs → (e : OmxError) → first_of_these xs ≡ Some e → is_fault (Told (Error e)) ≡ false
-  first_tells [] A e h = absurd cc
-  first_tells (x ∷ xs) A e h = either x.0
-      (λ t.
-      let s : Some x.1 ≡ Some e = sym (ap (λ (q : Bool). if q then Some x.1 else first_of_these xs) t) ∙ h in
-      let is : x.1 ≡ e = cc in
-      subst (λ (z : OmxError). is_fault (Told (Error z)) ≡ false) is A.0)
-      (λ t. first_tells xs A.1 e (sym (ap (λ (q : Bool). if q then Some x.1 else first_of_these xs) t) ∙ h))
-
-  fault_tells : (l : Look) (c : Component) (target : State) (e : OmxError) → state_fault l c target ≡ Some e → is_fault (Told (Error e)) ≡ false
-  fault_tells l c target e h =
-      let tests : List (Bool × OmxError) =
-      (same_state c.state target, errors.SameState)
-      ∷ (not (is_lawful c.state target), errors.IncorrectStateTransition)
-      ∷ (is_loaded c.state && not (fits c.settings), errors.UnsupportedSetting)
-      ∷ (is_loaded c.state && same_state target states.Idle && nat_lt (free_units l) (units_of c.settings.kind), errors.InsufficientResources)
-      ∷ (same_state target states.WaitForResources && has_no_wait l, errors.InsufficientResources)
-      ∷ [] in
-      let A : AreTellable tests = (refl, (refl, (refl, (refl, (refl, tt))))) in
-      first_tells tests A e h
 
   begun_in : (o : Option OmxError) → ((e : OmxError) → o ≡ Some e → is_fault (Told (Error e)) ≡ false) → (c : Component) (target : State) → begun o target (twin c) ≡ twin (begun o target c)
   begun_in None h c target = refl
@@ -293,6 +295,30 @@ module _ (reading : Reading) (fair : IsFair reading) (streams : List Stream → 
         (here_none (p1, errors.BadPortIndex) (two_tests t1 r1) (port_lacks command ∙ b.0)
         (here_none (t1, errors.BadParameter) (one_test r1) (target_lacks command ∙ d.0)
         (here_none (r1, errors.InsufficientResources) [] (room_lacks command o e.0) refl)))
+
+    -- the other way round, where there is room
+    pub takes_back : (command : Command) → is_at_once command ≡ false → nat_lt (room c) (cost_of c command) ≡ false → send_refusal (look (mirror w)) (twin c) command ≡ None → send_refusal (look w) c command ≡ None
+    takes_back command o roomy h =
+        let p0 : Bool = lacks_port c command in
+        let t0 : Bool = lacks_target (look w) command in
+        let r0 : Bool = lacks_command_room c command in
+        let p1 : Bool = lacks_port (twin c) command in
+        let t1 : Bool = lacks_target (look (mirror w)) command in
+        let r1 : Bool = lacks_command_room (twin c) command in
+        let a = none_here (is_invalid c.state, errors.InvalidState) (three_tests p1 t1 r1) h in
+        let b = none_here (p1, errors.BadPortIndex) (two_tests t1 r1) a.1 in
+        let d = none_here (t1, errors.BadParameter) (one_test r1) b.1 in
+        let e = none_here (r1, errors.InsufficientResources) [] d.1 in
+        let was : (nat_le 32 (length c.commands) || nat_lt (room (twin c)) (cost_of (twin c) command)) ≡ false =
+        sym (ap (λ (q : Bool). if q then nat_eq (room (invalidated (twin c))) 0 else (nat_le 32 (length c.commands) || nat_lt (room (twin c)) (cost_of (twin c) command))) o) ∙ e.0 in
+        let few = (none_or (nat_le 32 (length c.commands)) (nat_lt (room (twin c)) (cost_of (twin c) command)) was).0 in
+        let fits : lacks_command_room c command ≡ false =
+        ap (λ (q : Bool). if q then nat_eq (room (invalidated c)) 0 else (nat_le 32 (length c.commands) || nat_lt (room c) (cost_of c command))) o
+        ∙ or_none (nat_le 32 (length c.commands)) (nat_lt (room c) (cost_of c command)) few roomy in
+        here_none (is_invalid c.state, errors.InvalidState) (three_tests p0 t0 r0) a.0
+        (here_none (p0, errors.BadPortIndex) (two_tests t0 r0) (sym (port_lacks command) ∙ b.0)
+        (here_none (t0, errors.BadParameter) (one_test r0) (sym (target_lacks command) ∙ d.0)
+        (here_none (r0, errors.InsufficientResources) [] fits refl)))
 
   sent_in : (command : Command) → is_at_once command ≡ false → (c : Component) → sent command (twin c) ≡ twin (sent command c)
   sent_in command o c = rw o refl

@@ -53,7 +53,7 @@ fair_in = record {
   free = either_ended;
 }
 
-refusal_in : (w : World) (c : Component) (command : Command) → send_refusal (look (inside w)) (taken_in c) command ≡ send_refusal (look w) c command
+pub refusal_in : (w : World) (c : Component) (command : Command) → send_refusal (look (inside w)) (taken_in c) command ≡ send_refusal (look w) c command
 refusal_in w c (commands.StateSet target) = refl
 refusal_in w c (commands.Flush sel) = refl
 refusal_in w c (commands.PortDisable sel) = refl

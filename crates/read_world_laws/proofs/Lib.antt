@@ -1,6 +1,7 @@
 pub mod Reading
 pub mod Closing
 pub mod Calls
+pub mod Faults
 pub mod Passing
 pub mod Landing
 pub mod Noting

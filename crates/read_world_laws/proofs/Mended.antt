@@ -1,6 +1,7 @@
 -- The world without its faults: a note that tells one is nothing, and a work that comes back with one leaves the component without the work.
-use Rattle.std.proofs.Common.{◌≡◌, ◌⊎◌, ℕ, ◌+◌, ◌≤◌, Bool, true, false, not, ◌&&◌, ◌||◌, if◌then◌else◌, List, [], ◌∷◌, ◌++◌, append-nil, map, set, drop, slice_get, Option, Some, None, Result, refl, sym, ◌∙◌, ap, subst, arith}
+use Rattle.std.proofs.Common.{◌≡◌, ◌⊎◌, ℕ, ◌+◌, ◌≤◌, Bool, true, false, not, ◌&&◌, ◌||◌, nat_lt, if◌then◌else◌, List, [], ◌∷◌, ◌++◌, append-nil, map, set, drop, slice_get, Option, Some, None, Result, refl, sym, ◌∙◌, ap, subst, arith}
 use Rattle.std.proofs.lemmas.List.Sums.{sum_by-cons}
+use Rattle.omx_types.specs.declared.command.Command.{Command}
 use Rattle.omx_types.specs.declared.command.Event.TheVariants.{Error}
 use Rattle.omx_types.specs.declared.command.Note.{Note}
 use Rattle.omx_types.specs.declared.command.Note.TheVariants.{Told}
@@ -8,25 +9,35 @@ use Rattle.omx_types.specs.declared.error.OmxError.{OmxError}
 use Rattle.omx_types.specs.declared.fault.PartFault.{PartFault}
 use Rattle.omx_types.specs.declared.fault.PartFault.TheVariants.{Read, Short, Write}
 use Rattle.omx_types.specs.declared.handle.Handle.{Handle}
+use Rattle.omx_types.specs.declared.handle.PortId.{PortId}
+use Rattle.omx_types.specs.declared.param.Param.{Param}
+use Rattle.omx_types.specs.declared.param.ParamKey.{ParamKey}
+use Rattle.omx_types.specs.declared.param.Supplier.{Supplier}
 use Rattle.il_machine.specs.Acts.{Act, Reply}
 use Rattle.il_machine.specs.Acts as acts
 use Rattle.il_machine.specs.Claims.{CarriedHeader}
+use Rattle.il_machine.specs.Commands.{is_at_once, send_refusal}
 use Rattle.il_machine.specs.Due.{ClosesTo, IsClosed, restarted}
 use Rattle.il_machine.specs.Finishing.{Finish, all_landed, ends_by, error_of, fault_note, finished, notes_of_headers, part_by}
 use Rattle.il_machine.specs.Kinds.{is_source}
+use Rattle.il_machine.specs.Look.{look}
 use Rattle.il_machine.specs.Notes.{EndNote, TakeFrom, TakeNote, Took, first_taken, with_given}
+use Rattle.il_machine.specs.Parameters.{SetParameter}
 use Rattle.il_machine.specs.Parts.{terms_of}
-use Rattle.il_machine.specs.Room.{events_in, is_event}
+use Rattle.il_machine.specs.Room.{cost_of, events_in, is_event, room}
 use Rattle.il_machine.specs.Run.{Meets, Step}
 use Rattle.il_machine.specs.Stepping.{IsDoneBy, WorkDone, inputs_ended}
+use Rattle.il_machine.specs.Tunnels.{DropTunnel, SetupTunnel}
 use Rattle.il_machine.specs.World.{Component, Given, HeaderRecord, PartState, Stream, Work, World, is_numbered, number_of, place_numbered, place_of, stream_of, with_component}
 use Rattle.machine_laws.proofs.Finding.{either}
 use Rattle.read_world_laws.specs.Beside.{IsBeside, IsDeclined}
 use Rattle.read_world_laws.specs.Mended.{given_without, gone_on, is_fault, mend, mended, mended_part, without_faults}
+use Rattle.read_world_laws.proofs.Calls as calls
 use Rattle.read_world_laws.proofs.Closing as closing
 use Rattle.read_world_laws.proofs.Landing as landing
 use Rattle.read_world_laws.proofs.Landing.{GoesSo}
 use Rattle.read_world_laws.proofs.Noting as noting
+use Rattle.read_world_laws.proofs.Passing as passing
 use Rattle.read_world_laws.proofs.Reading.{IsFair, Reading}
 use Rattle.read_world_laws.proofs.Steps.{step_or}
 
@@ -101,6 +112,9 @@ module _ (ss : List Stream) where
   pub numbered_in : (n : ℕ) (cs : List Component) → place_numbered n (map mended cs) ≡ place_numbered n cs
   numbered_in n cs = closing.position_in faults_out fair_out given_streams (is_numbered n) (λ c. refl) cs
 
+  pub place_in : (h : Handle) (cs : List Component) → place_of h (map mended cs) ≡ place_of h cs
+  place_in = calls.place_in faults_out fair_out given_streams
+
   pub done_in : (b : Bool) (w : World) (c : Component) (work : Work) (done : WorkDone) → stream_of done.component (mend ss w) ≡ stream_of done.component w → IsDoneBy b w c work done → IsDoneBy b (mend ss w) (mended c) work done
   done_in = landing.done_in faults_out fair_out given_streams
 
@@ -120,6 +134,20 @@ module _ (ss : List Stream) where
 
   pub step_in : (w : World) (a : Act) (r : Reply) (v : World) → IsBeside a → Step w a r v → Step (mend ss w) a r (mend ss v) ⊎ ((v ≡ w) × IsDeclined r)
   step_in = step_or faults_out fair_out given_streams
+
+  -- what looks at no note goes the same way
+  pub sets_in : (w : World) (h : Handle) (key : ParamKey) (value : Param) (result : Result (Unit {0}) OmxError) (v : World) → SetParameter w h key value result v → SetParameter (mend ss w) h key value result (mend ss v)
+  sets_in = passing.sets_in faults_out fair_out given_streams
+
+  pub drops_in : (w : World) (o n : PortId) (result : Result (Unit {0}) OmxError) (v : World) → DropTunnel w o n result v → DropTunnel (mend ss w) o n result (mend ss v)
+  drops_in = passing.drops_in faults_out fair_out given_streams
+
+  pub joins_in : (w : World) (o n : PortId) (result : Result Supplier OmxError) (v : World) → SetupTunnel w o n result v → SetupTunnel (mend ss w) o n result (mend ss v)
+  joins_in = passing.joins_in faults_out fair_out given_streams
+
+  -- a command that is taken without the faults is taken, where there is room
+  pub takes_back : (w : World) (c : Component) (command : Command) → is_at_once command ≡ false → nat_lt (room c) (cost_of c command) ≡ false → send_refusal (look (mend ss w)) (mended c) command ≡ None → send_refusal (look w) c command ≡ None
+  takes_back = calls.takes_back faults_out fair_out given_streams
 
   pub meets_in : (w : World) (done : WorkDone) → stream_of done.component (mend ss w) ≡ stream_of done.component w → Meets w (acts.Finish done) → Meets (mend ss w) (acts.Finish done)
   meets_in = landing.meets_in faults_out fair_out given_streams

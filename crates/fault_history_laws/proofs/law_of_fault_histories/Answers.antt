@@ -1,4 +1,8 @@
-use Rattle.fault_history_laws.proofs.Faulty.{all_faulty, one_faulty}
+use Rattle.read_world_laws.specs.Inside.{inside}
+use Rattle.read_world_laws.specs.Mended.{mend}
+use Rattle.fault_history_laws.proofs.Accepting.{accepts}
+use Rattle.fault_history_laws.proofs.Asking.{asked_so}
+use Rattle.fault_history_laws.proofs.Faulty.{all_faulty, one_faulty, unasked_run}
 use Rattle.fault_history_laws.proofs.Fronts.{all_fronts, all_written, over_so}
 use Rattle.fault_history_laws.proofs.Opening.{begins_faulty, begins_flow}
 use Rattle.fault_history_laws.proofs.Whole.{all_whole}
@@ -10,6 +14,8 @@ returns c = record {
   flows = begins_flow;
   one = one_faulty;
   comes = all_faulty;
+  accepted = λ x k recent p ss w D a r v j s A. accepts x k recent p ss w D a r v j s (asked_so x (inside (mend w.streams w)) ss k a j A);
+  stays = unasked_run;
   over = over_so;
   whole = all_whole;
   written = λ x contents k recent p ss w stream D H Q. all_written x contents k recent p ss w stream D H Q;
