@@ -60,7 +60,7 @@ accepted_plain : (result : Result (Unit {0}) OmxError) → (IsDeclined (acts.Pla
 accepted_plain (Ok tt) N = refl
 accepted_plain (Err e) N = absurd (N tt)
 
-sent_ok : (w : World) (h : Handle) (command : Command) (r : Reply) (v : World) → Step w (acts.SendCommand h command) r v → (IsDeclined r → ⊥) → r ≡ acts.Plain (Ok tt)
+pub sent_ok : (w : World) (h : Handle) (command : Command) (r : Reply) (v : World) → Step w (acts.SendCommand h command) r v → (IsDeclined r → ⊥) → r ≡ acts.Plain (Ok tt)
 sent_ok w h command (acts.Plain result) v s N = ap acts.Plain (accepted_plain result N)
 sent_ok w h command _ v s N = absurd s
 
@@ -77,7 +77,7 @@ kind_sinks None part q e = absurd cc
 kind_sinks (Some other) part q e = e
 
 -- at its place
-mapped_at : (state : State) (handles : List Handle) (i : ℕ) (h : Handle) → slice_get handles i ≡ Some h → slice_get (map (sending state) handles) i ≡ Some (sending state h)
+pub mapped_at : (state : State) (handles : List Handle) (i : ℕ) (h : Handle) → slice_get handles i ≡ Some h → slice_get (map (sending state) handles) i ≡ Some (sending state h)
 mapped_at state [] i h e = absurd cc
 mapped_at state (g ∷ handles) zero h e = let is : g ≡ h = cc in ap (λ (y : Handle). Some (sending state y)) is
 mapped_at state (g ∷ handles) (suc i) h e = mapped_at state handles i h e
@@ -100,7 +100,7 @@ module _ (plan : PlanValue) (files : PlayFiles) (handles : List Handle) (w : Wor
   abbrev u : World
   u = read_of v
 
-  there : (i : ℕ) → i < length plan.parts → (d : Component) × (slice_get u.components i ≡ Some d)
+  pub there : (i : ℕ) → i < length plan.parts → (d : Component) × (slice_get u.components i ≡ Some d)
   there i b =
       let m = (((((come plan files handles w steps k v G).faulty).taken).played).play).many in
       get_there u.components i (omega (arith, b, m))

@@ -13,6 +13,7 @@ use Rattle.il_machine.specs.Acts.{Act, Reply}
 use Rattle.il_machine.specs.Acts as acts
 use Rattle.il_machine.specs.Kinds.{is_sink}
 use Rattle.il_machine.specs.Places.{first_place}
+use Rattle.il_machine.specs.Run.{Step}
 use Rattle.il_machine.specs.World.{Component, World, is_at, place_of}
 use Rattle.il_machine.proofs.Places.{is_first_place}
 use Rattle.script_lang.specs.declared.play_line.PartLine.{PartLine}
@@ -40,9 +41,11 @@ use Rattle.read_world_laws.specs.Inside.{taken_in}
 use Rattle.read_world_laws.specs.Mended.{mended}
 use Rattle.read_world_laws.proofs.Inside as ins
 use Rattle.play_history_laws.specs.Histories.{IsUnasked}
-use Rattle.play_history_laws.specs.Order.{BothHaveTold, Cursor, EachHasHeard, HasHeardOf, IsChangeAct, IsSending, nothing_asked}
+use Rattle.play_history_laws.specs.Order.{BothHaveTold, Cursor, EachHasHeard, HasHeardOf, IsAsked, IsChangeAct, IsSending, nothing_asked}
 use Rattle.fault_history_laws.specs.Faults.{HasFaulted, IsFailedStep, IsFaulty}
 use Rattle.fault_history_laws.specs.Telling.{IsAlike}
+use Rattle.fault_history_laws.proofs.Accepting.{accepts, not_declined}
+use Rattle.fault_history_laws.proofs.Asking.{asked_so}
 use Rattle.fault_history_laws.proofs.Faulty.{all_faulty}
 use Rattle.fault_history_laws.proofs.Keeping.{read_there}
 use Rattle.fault_history_laws.proofs.Telling.{all_named, told_so}
@@ -55,10 +58,10 @@ place_mended : (h : Handle) (cs : List Component) → first_place (is_at h) (map
 place_mended h [] = refl
 place_mended h (c ∷ cs) = ap (λ (o : Option ℕ). cond (is_at h c) (Some 0) (option_map suc o)) (place_mended h cs)
 
-place_read : (h : Handle) (w : World) → place_of h (read_of w).components ≡ place_of h w.components
+pub place_read : (h : Handle) (w : World) → place_of h (read_of w).components ≡ place_of h w.components
 place_read h w = ins.place_in h (map mended w.components) ∙ (is_first_place (is_at h) (map mended w.components) ∙ (place_mended h w.components ∙ sym (is_first_place (is_at h) w.components)))
 
-read_is : (w : World) (i : ℕ) (d : Component) → slice_get (read_of w).components i ≡ Some d → (c : Component) × (slice_get w.components i ≡ Some c) × (taken_in (mended c) ≡ d)
+pub read_is : (w : World) (i : ℕ) (d : Component) → slice_get (read_of w).components i ≡ Some d → (c : Component) × (slice_get w.components i ≡ Some c) × (taken_in (mended c) ≡ d)
 read_is w i d e =
     let b = slice_get_within (read_of w).components i d e in
     let once = length-map w.components mended in
@@ -112,7 +115,7 @@ module _ (plan : PlanValue) (files : PlayFiles) (handles : List Handle) (w : Wor
   begun : IsFaulty (play_cast_of plan) (nothing_asked (play_cast_of plan).cast) 0 opening w.streams w
   begun = plan_faulty plan files handles w G.stage 0 G.ready
 
-  pub come : HasFaulted (play_cast_of plan) k opening w.streams w v
+  pub come : HasFaulted (play_cast_of plan) (nothing_asked (play_cast_of plan).cast) 0 opening k w.streams w v
   come = all_faulty x steps (nothing_asked x.cast) 0 opening w.streams w k v begun G.goes
 
   pub hears : (i : ℕ) (d : Component) → slice_get u.components i ≡ Some d → IsAlike (heard u d) (told_by i steps)
@@ -133,6 +136,10 @@ module _ (plan : PlanValue) (files : PlayFiles) (handles : List Handle) (w : Wor
       let n = V.flows in
       (plan_has_cast plan (λ l. false) V).joints l (joint_of plan l) (flow_of plan l) (slice_get-get_or plan.joints l no_joint b) (slice_get-get_or plan.flows l no_flow (omega arith))
 
+  -- what is asked next is accepted
+  pub accepted_next : (step : Act × Reply) (after : World) → Step v step.0 step.1 after → (j : Cursor) → IsAsked x k u step.0 j → IsDeclined step.1 → ⊥
+  accepted_next step after t j A = not_declined step.1 (accepts x k come.recent come.now come.later v come.faulty step.0 step.1 after j t (asked_so x u come.later k step.0 j A))
+
   -- ---- what was told
 
   pub states_heard : (state : State) → AreAllAt s state steps → EachHasHeard x.cast u (λ number progress. progress.state ≡ Some state)
@@ -151,15 +158,26 @@ module _ (plan : PlanValue) (files : PlayFiles) (handles : List Handle) (w : Wor
 
   -- ---- what is asked
 
+  -- the handle names its place still
+  pub named_now : (i : ℕ) (h : Handle) → slice_get handles i ≡ Some h → place_of h v.components ≡ Some i
+  named_now i h e = all_named x steps (nothing_asked x.cast) 0 opening w.streams w k v begun G.goes h i (names (assembly_of plan files) (Joining (length plan.joints)) handles w i h G.stage e)
+
   pub named : (i : ℕ) (h : Handle) → slice_get handles i ≡ Some h → place_of h u.components ≡ Some i
-  named i h e = place_read h v ∙ all_named x steps (nothing_asked x.cast) 0 opening w.streams w k v begun G.goes h i (names (assembly_of plan files) (Joining (length plan.joints)) handles w i h G.stage e)
+  named i h e = place_read h v ∙ named_now i h e
 
   pub many : length handles ≡ length plan.parts
   many =
       let B = (G.stage).built in
       ap length (sym B.handles_are) ∙ (length-map w.components (λ (a : Component). a.handle) ∙ B.many)
 
-  sends_to : (state : State) (phase i : ℕ) (step : Act × Reply) → state ≡ target phase → slice_get (map (sending state) handles) i ≡ Some step → IsSending x.cast u phase i step.0 × (IsDeclined step.1 → ⊥)
+  pub many_now : length v.components ≡ length plan.parts
+  many_now =
+      let m = (((((come.faulty).taken).played).play).many) in
+      let once = length-map v.components mended in
+      let twice = length-map (map mended v.components) taken_in in
+      omega (arith, m, once, twice)
+
+  pub sends_to : (state : State) (phase i : ℕ) (step : Act × Reply) → state ≡ target phase → slice_get (map (sending state) handles) i ≡ Some step → IsSending x.cast u phase i step.0 × (IsDeclined step.1 → ⊥)
   sends_to state phase i step t e =
       let f = sent_at state handles i step e in
       let h : Handle = f.0 in

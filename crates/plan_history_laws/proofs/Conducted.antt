@@ -9,6 +9,7 @@ use Rattle.il_machine.specs.Acts.{Act, Reply}
 use Rattle.il_machine.specs.Acts as acts
 use Rattle.machine_laws.proofs.Finding.{either}
 use Rattle.play_build_laws.specs.Assembly.{Assembly}
+use Rattle.play_log.specs.Entries.{is_unprinted}
 use Rattle.play_result_laws.specs.Asked.{Asking, BackToIdle, Disabling, Enabling, IsConducted, Retuning, ToExecuting, ToIdle, ToLoaded, acts_of, asked, askings, is_asked, is_unasked, sending}
 use Rattle.plan_history_laws.specs.Requests.{AreRequested, is_request, is_request_act, requests}
 
@@ -25,23 +26,28 @@ unasked_no (acts.EndNote h progress) r t = refl
 unasked_no (acts.Progress h) r t = absurd cc
 unasked_no _ r t = absurd cc
 
--- ---- lists of requests alone
+pub asked_too : (step : Act × Reply) → is_request step ≡ true → is_asked step ≡ true
+asked_too step t = either (is_unasked step.0 step.1)
+    (λ u. let z : true ≡ false = sym t ∙ unasked_no step.0 step.1 u in absurd cc)
+    (λ f. ap (λ (b : Bool). not b) f)
 
-abbrev AreAll : List (Act × Reply) → Type 0
+-- ---- lists of requests alone, each with a reply that a log has
+
+abbrev pub AreAll : List (Act × Reply) → Type 0
 AreAll [] = Unit {0}
-AreAll (step ∷ steps) = (is_request step ≡ true) × AreAll steps
+AreAll (step ∷ steps) = (is_request step ≡ true) × (is_unprinted step.1 ≡ false) × AreAll steps
 
 all_front : (xs ys : List (Act × Reply)) → AreAll (xs ++ ys) → AreAll xs
 all_front [] ys A = tt
-all_front (x ∷ xs) ys A = (A.0, all_front xs ys A.1)
+all_front (x ∷ xs) ys A = (A.0, A.1, all_front xs ys A.2)
 
 all_both : (xs ys : List (Act × Reply)) → AreAll xs → AreAll ys → AreAll (xs ++ ys)
 all_both [] ys A B = B
-all_both (x ∷ xs) ys A B = (A.0, all_both xs ys A.1 B)
+all_both (x ∷ xs) ys A B = (A.0, A.1, all_both xs ys A.2 B)
 
 all_kept : (xs : List (Act × Reply)) → AreAll xs → requests xs ≡ xs
 all_kept [] A = refl
-all_kept (x ∷ xs) A = ap (λ (b : Bool). cond b (x ∷ requests xs) (requests xs)) A.0 ∙ ap (λ (ys : List (Act × Reply)). x ∷ ys) (all_kept xs A.1)
+all_kept (x ∷ xs) A = ap (λ (b : Bool). cond b (x ∷ requests xs) (requests xs)) A.0 ∙ ap (λ (ys : List (Act × Reply)). x ∷ ys) (all_kept xs A.2)
 
 -- what is no request is left out twice
 kept_once : (xs : List (Act × Reply)) → requests xs ≡ requests (asked xs)
@@ -56,16 +62,16 @@ kept_once (x ∷ xs) = either (is_unasked x.0 x.1)
 module _ (s : Assembly) (handles : List Handle) where
   all_sent : (state : State) (hs : List Handle) → AreAll (map (sending state) hs)
   all_sent state [] = tt
-  all_sent state (h ∷ hs) = (refl, all_sent state hs)
+  all_sent state (h ∷ hs) = (refl, refl, all_sent state hs)
 
   all_acts : (one : Asking) → AreAll (acts_of s handles one)
   all_acts ToIdle = all_sent Idle handles
   all_acts ToExecuting = all_sent Executing handles
   all_acts BackToIdle = all_sent Idle handles
   all_acts ToLoaded = all_sent Loaded handles
-  all_acts (Disabling l) = (refl, (refl, tt))
-  all_acts (Retuning l) = (refl, (refl, (refl, (refl, tt))))
-  all_acts (Enabling l) = (refl, (refl, tt))
+  all_acts (Disabling l) = (refl, refl, (refl, refl, tt))
+  all_acts (Retuning l) = (refl, refl, (refl, refl, (refl, refl, (refl, refl, tt))))
+  all_acts (Enabling l) = (refl, refl, (refl, refl, tt))
 
   all_list : (list : List Asking) → AreAll (flat_map (acts_of s handles) list)
   all_list [] = tt
@@ -74,7 +80,7 @@ module _ (s : Assembly) (handles : List Handle) where
   all_at : (xs : List (Act × Reply)) (i : ℕ) (step : Act × Reply) → AreAll xs → slice_get xs i ≡ Some step → is_request step ≡ true
   all_at [] i step A e = absurd cc
   all_at (x ∷ xs) zero step A e = let is : x ≡ step = cc in ap is_request (sym is) ∙ A.0
-  all_at (x ∷ xs) (suc i) step A e = all_at xs i step A.1 e
+  all_at (x ∷ xs) (suc i) step A e = all_at xs i step A.2 e
 
   -- what is asked is a request
   pub is_request_of : (one : Asking) (i : ℕ) (step : Act × Reply) → slice_get (acts_of s handles one) i ≡ Some step → is_request step ≡ true
@@ -92,18 +98,17 @@ module _ (s : Assembly) (handles : List Handle) where
         let A : AreAll (asked before ++ asked after) = subst (λ (ys : List (Act × Reply)). AreAll ys) (ap asked e ∙ filter-append is_asked before after) all_asked in
         kept_once before ∙ all_kept (asked before) (all_front (asked before) (asked after) A)
 
-    is_asked_too : (step : Act × Reply) → is_request step ≡ true → is_asked step ≡ true
-    is_asked_too step t = either (is_unasked step.0 step.1)
-        (λ u. let z : true ≡ false = sym t ∙ unasked_no step.0 step.1 u in absurd cc)
-        (λ f. ap (λ (b : Bool). not b) f)
-
     pub conducted_requested : AreRequested s handles C.links [] steps
     conducted_requested = record {
       late = C.late;
       made = append-nil (requests steps) ∙ (same_front steps [] (sym (append-nil steps)) ∙ C.whole);
       timely = λ number one next before after step a b e t m.
-          C.timely number one next before after step a b e (is_asked_too step t) (sym (same_front before (step ∷ after) e) ∙ m);
+          C.timely number one next before after step a b e (asked_too step t) (sym (same_front before (step ∷ after) e) ∙ m);
     }
+
+  -- what was requested so is all of it
+  pub requested_all : (links : List ℕ) (left steps : List (Act × Reply)) → AreRequested s handles links left steps → AreAll (requests steps)
+  requested_all links left steps R = all_front (requests steps) left (subst (λ (ys : List (Act × Reply)). AreAll ys) (sym R.made) (all_list (askings links)))
 
   -- a front of requested steps is requested
   pub front_requested : (links : List ℕ) (left front behind : List (Act × Reply)) → AreRequested s handles links left (front ++ behind) → AreRequested s handles links (requests behind ++ left) front

@@ -23,37 +23,43 @@ use Rattle.fault_history_laws.proofs.Faulty.{all_faulty}
 use Rattle.fault_history_laws.proofs.Whole.{all_whole}
 use Rattle.plan_history_laws.specs.Askings.{IsPlanHistory}
 use Rattle.plan_history_laws.specs.Requests.{AreRequested}
+use Rattle.plan_history_laws.proofs.Askings.{many_now}
 use Rattle.plan_history_laws.proofs.Opening.{plan_faulty, plan_flows}
 use Rattle.plan_history_laws.proofs.Requested.{requested_history}
 use Rattle.plan_history_laws.proofs.Texts.{fault_fronts, fault_whole}
 
-module _ (plan : PlanValue) (files : PlayFiles) (samples : List (List ℕ)) (R : IsReady plan files) (F : AreSamples plan files samples)
+module _ (plan : PlanValue) (files : PlayFiles) (R : IsReady plan files)
     (handles : List Handle) (w : World) (S : IsStage (assembly_of plan files) (Joining (length plan.joints)) handles w)
     (links : List ℕ) (left steps : List (Act × Reply)) (A : AreRequested (tuned plan files) handles links left steps) (v : World) (r : Run w steps v) where
   abbrev x : PlayCast
   x = play_cast_of plan
 
-  history : (cursor : Cursor) × IsPlanHistory plan files handles w steps cursor v × (left ≡ [] → 1 ≤ length plan.parts → cursor.phase ≡ 4)
+  pub history : (cursor : Cursor) × IsPlanHistory plan files handles w steps cursor v × (left ≡ [] → 1 ≤ length plan.parts → cursor.phase ≡ 4)
   history = requested_history plan files handles w R S links left steps A v r
 
   begun : IsFaulty (play_cast_of plan) (nothing_asked (play_cast_of plan).cast) 0 opening w.streams w
   begun = plan_faulty plan files handles w S 0 R
 
-  come : HasFaulted x history.0 opening w.streams w v
+  come : HasFaulted x (nothing_asked x.cast) 0 opening history.0 w.streams w v
   come = all_faulty x steps (nothing_asked x.cast) 0 opening w.streams w history.0 v begun (history.1).goes
 
-  flows : HasFaultStreams x (contents_of plan files samples) (streams_of plan samples) come.now come.later v
-  flows = come.leads (contents_of plan files samples) (streams_of plan samples) (plan_plain plan files samples R F (λ l. false)) (plan_flows plan files samples w R F (handles, S))
+  -- where all was requested no step has failed
+  pub requested_none : left ≡ [] → NoneFailed v
+  requested_none none = λ place c e.
+      let some = slice_get_within v.components place c e in
+      let many = many_now plan files handles w steps history.0 v history.1 in
+      let over = history.2 none (omega (arith, some, many)) in
+      all_whole x steps (nothing_asked x.cast) 0 opening w.streams w history.0 v begun (history.1).goes (λ b. absurd (omega (arith, b))) (omega (arith, over)) place c e
 
-  pub requested_fronts : (place : ℕ) (name : List ℕ) → IsWriter plan.parts place name → HasWrittenFront v place (sink_text plan samples place)
-  requested_fronts place name I = fault_fronts plan files samples R F history.0 come.recent come.now come.later v come.faulty flows place name I
+  module _ (samples : List (List ℕ)) (F : AreSamples plan files samples) where
+    flows : HasFaultStreams x (contents_of plan files samples) (streams_of plan samples) come.now come.later v
+    flows = come.leads (contents_of plan files samples) (streams_of plan samples) (plan_plain plan files samples R F (λ l. false)) (plan_flows plan files samples w R F (handles, S))
 
-  module _ (none : left ≡ []) (place : ℕ) (name : List ℕ) (I : IsWriter plan.parts place name) where
-    over : (history.0).phase ≡ 4
-    over = let b = slice_get_within plan.parts place I.0 I.1 in history.2 none (omega (arith, b))
+    pub requested_fronts : (place : ℕ) (name : List ℕ) → IsWriter plan.parts place name → HasWrittenFront v place (sink_text plan samples place)
+    requested_fronts place name I = fault_fronts plan files samples R F history.0 come.recent come.now come.later v come.faulty flows place name I
 
-    pub requested_none : NoneFailed v
-    requested_none = let p = over in all_whole x steps (nothing_asked x.cast) 0 opening w.streams w history.0 v begun (history.1).goes (λ b. absurd (omega (arith, b))) (omega (arith, p))
-
-    pub requested_whole : HasWritten v place (sink_text plan samples place)
-    requested_whole = let p = over in fault_whole plan files samples R F history.0 come.recent come.now come.later v come.faulty flows (omega (arith, p)) requested_none place name I
+    pub requested_whole : left ≡ [] → (place : ℕ) (name : List ℕ) → IsWriter plan.parts place name → HasWritten v place (sink_text plan samples place)
+    requested_whole none place name I =
+        let b = slice_get_within plan.parts place I.0 I.1 in
+        let over = history.2 none (omega (arith, b)) in
+        fault_whole plan files samples R F history.0 come.recent come.now come.later v come.faulty flows (omega (arith, over)) (requested_none none) place name I

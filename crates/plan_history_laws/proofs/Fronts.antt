@@ -1,9 +1,10 @@
 -- Lists of which a front was taken, and those of some of their elements.
 use Rattle.std.proofs.Common.{◌≡◌, ◌⊎◌, inl, inr, ℕ, zero, suc, ◌+◌, ◌<◌, ◌≤◌, Bool, true, false, ◌==◌, List, [], ◌∷◌, ◌++◌, take, drop, length, slice_get, Some, refl, sym, ◌∙◌, ap, append-nil, length-append, arith}
-use Rattle.std.specs.Prelude.{cond, count_by, filter}
+use Rattle.std.specs.Prelude.{All, cond, count_by, filter}
 use Rattle.std.proofs.lemmas.List.{append_cancel_left, take_all}
-use Rattle.std.proofs.lemmas.List.Elements.{filter-append}
+use Rattle.std.proofs.lemmas.List.Elements.{All-cons, All-head, All-nil, All-tail, filter-append}
 use Rattle.std.proofs.lemmas.List.Sums.{sum_by-append, sum_by-cons}
+use Rattle.machine_laws.proofs.Finding.{either}
 
 -- ---- a front of a list
 
@@ -110,6 +111,36 @@ module _ {A : Type 0} (p : A → Bool) where
 
   pub kept_at : (before after : List A) (x : A) → p x ≡ true → filter p (before ++ x ∷ after) ≡ filter p before ++ x ∷ filter p after
   kept_at before after x e = filter-append p before (x ∷ after) ∙ ap (λ (b : Bool). filter p before ++ cond b (x ∷ filter p after) (filter p after)) e
+
+-- where one of them is in the list
+pub kept_cut : {A : Type 0} (p : A → Bool) (xs front rest : List A) (x : A) → filter p xs ≡ front ++ x ∷ rest → (ys : List A) × (zs : List A) × (xs ≡ ys ++ x ∷ zs) × (filter p ys ≡ front)
+kept_cut p [] front rest x e = absurd (none_there front rest x e)
+kept_cut {A} p (y ∷ xs) [] rest x e = either (p y)
+    (λ t.
+    let f : y ∷ filter p xs ≡ x ∷ rest = sym (ap (λ (b : Bool). cond b (y ∷ filter p xs) (filter p xs)) t) ∙ e in
+    let is : y ≡ x = cc in
+    ([], xs, ap (λ (z : A). z ∷ xs) is, refl))
+    (λ f.
+    let r = kept_cut p xs [] rest x (sym (ap (λ (b : Bool). cond b (y ∷ filter p xs) (filter p xs)) f) ∙ e) in
+    (y ∷ r.0, r.1, ap (λ (zs : List A). y ∷ zs) r.2, ap (λ (b : Bool). cond b (y ∷ filter p r.0) (filter p r.0)) f ∙ r.3))
+kept_cut {A} p (y ∷ xs) (z ∷ front) rest x e = either (p y)
+    (λ t.
+    let f : y ∷ filter p xs ≡ z ∷ (front ++ x ∷ rest) = sym (ap (λ (b : Bool). cond b (y ∷ filter p xs) (filter p xs)) t) ∙ e in
+    let is : y ≡ z = cc in
+    let r = kept_cut p xs front rest x (let g : filter p xs ≡ front ++ x ∷ rest = cc in g) in
+    (y ∷ r.0, r.1, ap (λ (zs : List A). y ∷ zs) r.2, ap (λ (b : Bool). cond b (y ∷ filter p r.0) (filter p r.0)) t ∙ (λ j. is j ∷ r.3 j)))
+    (λ f.
+    let r = kept_cut p xs (z ∷ front) rest x (sym (ap (λ (b : Bool). cond b (y ∷ filter p xs) (filter p xs)) f) ∙ e) in
+    (y ∷ r.0, r.1, ap (λ (zs : List A). y ∷ zs) r.2, ap (λ (b : Bool). cond b (y ∷ filter p r.0) (filter p r.0)) f ∙ r.3))
+
+-- what all are, a front of them and what is behind it are
+pub all_before : {A : Type 0} (P : A → Type 0) (xs ys : List A) → All P (xs ++ ys) → All P xs
+all_before P [] ys H = All-nil P
+all_before P (x ∷ xs) ys H = All-cons P x xs (All-head P x (xs ++ ys) H) (all_before P xs ys (All-tail P x (xs ++ ys) H))
+
+pub all_behind : {A : Type 0} (P : A → Type 0) (xs ys : List A) → All P (xs ++ ys) → All P ys
+all_behind P [] ys H = H
+all_behind P (x ∷ xs) ys H = all_behind P xs ys (All-tail P x (xs ++ ys) H)
 
 -- ---- how often a number is in a list
 

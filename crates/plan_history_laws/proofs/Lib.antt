@@ -13,3 +13,7 @@ pub mod Requesting
 pub mod Ordered
 pub mod Files
 pub mod Own
+pub mod Printed
+pub mod Unrefused
+pub mod Readings
+pub mod Ends

@@ -24,7 +24,7 @@ use Rattle.play_history_laws.specs.Order.{Cursor, nothing_asked}
 use Rattle.fault_history_laws.specs.Faults.{IsFailedStep, IsFaultHistory}
 use Rattle.plan_history_laws.specs.Askings.{IsPlanHistory}
 use Rattle.plan_history_laws.specs.Requests.{AreInTime, AreRequested, IsOrdered, is_request_act, requests}
-use Rattle.plan_history_laws.proofs.Askings.{many}
+use Rattle.plan_history_laws.proofs.Askings.{accepted_next, many}
 use Rattle.plan_history_laws.proofs.Begun.{AreBegun, HasAsked, IsAskedIn, IsAskedTo, begun_by, begun_of, changes, front_at, left_of, still_asked}
 use Rattle.plan_history_laws.proofs.Requesting.{one_more_asked}
 use Rattle.plan_history_laws.proofs.Fronts.{none_left, times}
@@ -306,7 +306,9 @@ module _ (plan : PlanValue) (files : PlayFiles) (handles : List Handle) (w : Wor
       let next : IsFaultHistory cast (nothing_asked cast.cast) w (before ++ step ∷ []) i u = history_on cast before (nothing_asked cast.cast) w k mid G step i u m s A in
       let is : HasAsked plan files handles (before ++ step ∷ []) i = elim A [
         | inl O ↦ subst (λ (c : Cursor). HasAsked plan files handles (before ++ step ∷ []) c) (sym O.1) (still_asked plan files handles before step k (elim O.0 [ inl U ↦ unasked_none step.0 U | inr F ↦ failed_none step.0 F ]) H)
-        | inr B ↦ (one_more_asked plan files handles w before k mid (record { ready = ready; stage = stage; goes = G }) step u s B.1 i B.0 H).asked
+        | inr B ↦
+            let T : IsPlanHistory plan files handles w before k mid = record { ready = ready; stage = stage; goes = G } in
+            (one_more_asked plan files handles w before k mid T step u s (accepted_next plan files handles w before k mid T step u s i B) i B H).asked
       ] in
       subst (λ (ys : List (Act × Reply)). HasAsked plan files handles ys j) (append_assoc before (step ∷ []) after) (asks_on after (before ++ step ∷ []) i u next is rest)
 

@@ -43,13 +43,13 @@ unrequested _ t = absurd cc
 
 -- a history goes on by one act
 pub history_on : (x : PlayCast) (steps : List (Act × Reply)) (k : Cursor) (w : World) (j : Cursor) (v : World) → IsFaultHistory x k w steps j v
-    → (step : Act × Reply) (i : Cursor) (u : World) → Meets v step.0 → Step v step.0 step.1 u → IsAnyAllowed x j (read_of v) step.0 step.1 i → IsFaultHistory x k w (steps ++ step ∷ []) i u
+    → (step : Act × Reply) (i : Cursor) (u : World) → Meets v step.0 → Step v step.0 step.1 u → IsAnyAllowed x j (read_of v) step.0 i → IsFaultHistory x k w (steps ++ step ∷ []) i u
 history_on x [] k w j v (e, f) step i u m s A = (
   i,
   u,
   subst (λ (y : World). Meets y step.0) f m,
   subst (λ (y : World). Step y step.0 step.1 u) f s,
-  subst (λ (c : Cursor). IsAnyAllowed x c (read_of w) step.0 step.1 i) e (subst (λ (y : World). IsAnyAllowed x j (read_of y) step.0 step.1 i) f A),
+  subst (λ (c : Cursor). IsAnyAllowed x c (read_of w) step.0 i) e (subst (λ (y : World). IsAnyAllowed x j (read_of y) step.0 i) f A),
   (refl, refl),
 )
 history_on x (one ∷ steps) k w j v (b, mid, m0, s0, A0, rest) step i u m s A = (b, mid, m0, s0, A0, history_on x steps b mid j v rest step i u m s A)
@@ -76,7 +76,7 @@ module _ (plan : PlanValue) (files : PlayFiles) (handles : List Handle) (w : Wor
       sym (append_assoc (requests before) (step ∷ requests after) left)
       ∙ (ap (λ (ys : List (Act × Reply)). ys ++ left) (sym (ap requests e ∙ kept_at is_request before after step t)) ∙ R.made) in
       let N = asked_next plan files handles links R.late steps before after more step R.timely e t made w G.cursor mid (record { ready = ready; stage = stage; goes = G.goes }) G.place in
-      record { cursor = N.next; goes = history_on x before (nothing_asked x.cast) w G.cursor mid G.goes step N.next u m s (inr (N.asks, N.accepted)); place = N.place })
+      record { cursor = N.next; goes = history_on x before (nothing_asked x.cast) w G.cursor mid G.goes step N.next u m s (inr N.asks); place = N.place })
       (λ t.
       let same = kept_not is_request before step t in
       record {

@@ -1,3 +1,4 @@
 pub mod Askings
 pub mod Requests
+pub mod Refused
 pub mod Passes

@@ -1,14 +1,21 @@
--- The entries of a history of turns: the pass that made each, its act and the reply. What one conducts is that of some passes.
-use Rattle.std.specs.Prelude.{◌≡◌, ℕ, Bool, false, List, filter, map, slice_get, Some}
+-- The entries of a history, by passes and as a log has them. What one conducts is that of some passes.
+use Rattle.std.specs.Prelude.{◌≡◌, ℕ, Bool, true, false, All, List, filter, slice_get, Some}
 use Rattle.il_machine.specs.Acts.{Act, Reply}
+use Rattle.play_log.specs.Entries.{Entry, is_unprinted, step_of, steps_of}
+use Rattle.plan_history_laws.specs.Refused.{is_refused}
 use Rattle.plan_history_laws.specs.Requests.{is_request}
 
-abbrev pub steps_of : List (ℕ × (Act × Reply)) → List (Act × Reply)
-steps_of entries = map (λ (entry : ℕ × (Act × Reply)). entry.1) entries
-
-abbrev pub own_steps : (ℕ → Bool) → List (ℕ × (Act × Reply)) → List (Act × Reply)
-own_steps own entries = steps_of (filter (λ (entry : ℕ × (Act × Reply)). own entry.0) entries)
+abbrev pub own_steps : (ℕ → Bool) → List Entry → List (Act × Reply)
+own_steps own entries = steps_of (filter (λ entry. own entry.pass) entries)
 
 -- the other passes request nothing
-abbrev pub RequestAlone : (ℕ → Bool) → List (ℕ × (Act × Reply)) → Type 0
-RequestAlone own entries = (place : ℕ) (entry : ℕ × (Act × Reply)) → slice_get entries place ≡ Some entry → own entry.0 ≡ false → is_request entry.1 ≡ false
+abbrev pub RequestAlone : (ℕ → Bool) → List Entry → Type 0
+RequestAlone own entries = (place : ℕ) (entry : Entry) → slice_get entries place ≡ Some entry → own entry.pass ≡ false → is_request (step_of entry) ≡ false
+
+-- of what nobody need ask for nothing was refused
+abbrev pub AreUnrefused : List Entry → Type 0
+AreUnrefused entries = All (λ entry. is_request (step_of entry) ≡ false → is_refused entry.reply ≡ false) entries
+
+-- each request has a line in a log
+abbrev pub HaveLines : List Entry → Type 0
+HaveLines entries = All (λ entry. is_request (step_of entry) ≡ true → is_unprinted entry.reply ≡ false) entries

@@ -2,13 +2,14 @@
 //! world to which they lead. Stated on functions that do nothing; plays by workers and checks of logs stand on them.
 #![tactic(auto)]
 
-ghost use Rattle.std.specs.Prelude.{Bool, List, Some, [], flat_map, is_some, length, slice_get, true, ◌++◌, ◌<◌, ◌≡◌, ◌≤◌, ◌⊎◌, ℕ};
+ghost use Rattle.std.specs.Prelude.{All, Bool, List, Some, [], false, flat_map, is_some, length, slice_get, true, ◌++◌, ◌<◌, ◌≡◌, ◌≤◌, ◌⊎◌, ℕ};
 ghost use Rattle.omx_types.specs.declared.command.Completion.{Completion};
 ghost use Rattle.omx_types.specs.declared.handle.Handle.{Handle};
 ghost use Rattle.omx_types.specs.declared.state.State.{State};
+ghost use Rattle.omx_types.specs.declared.state.State.TheVariants.{Loaded};
 ghost use Rattle.il_machine.specs.Acts.{Act, Reply};
-ghost use Rattle.il_machine.specs.Run.{Run};
-ghost use Rattle.il_machine.specs.World.{Stream, World};
+ghost use Rattle.il_machine.specs.Run.{Run, Step};
+ghost use Rattle.il_machine.specs.World.{Component, Stream, World};
 ghost use Rattle.play_build_laws.specs.Assembly.{Assembly};
 ghost use Rattle.play_build_laws.specs.Stages.{IsStage, Joining};
 ghost use Rattle.play_forms.specs.Plain.{sink_text};
@@ -17,7 +18,9 @@ ghost use Rattle.play_model.specs.Play.{Play};
 ghost use Rattle.play_world_laws.specs.Cast.{giver_of};
 ghost use Rattle.play_world_laws.specs.Openings.{opening};
 ghost use Rattle.play_plan_laws.specs.Assemblies.{IsReady, PlayFiles, assembly_of, play_cast_of};
-ghost use Rattle.play_result_laws.specs.Asked.{AreAllAt, AreBothDone, BackToIdle, Disabling, HasCause, IsConducted, acts_of, change_of, is_unasked, tuned};
+ghost use Rattle.play_plan_laws.specs.Endings.{IsPlayedOut};
+ghost use Rattle.play_log.specs.Entries.{Entry, printed, steps_of};
+ghost use Rattle.play_result_laws.specs.Asked.{AreAllAt, AreBothDone, BackToIdle, Disabling, HasCause, IsConducted, acts_of, change_of, is_unasked, told_by, tuned};
 ghost use Rattle.play_result_laws.specs.Files.{AreSamples, IsWriter};
 ghost use Rattle.play_result_laws.specs.Worlds.{HasWritten, IsOpening};
 ghost use Rattle.play_stream_laws.specs.PlayStreams.{HasPlayStreams};
@@ -25,13 +28,14 @@ ghost use Rattle.play_result_laws.specs.Contents.{contents_of, streams_of};
 ghost use Rattle.play_result_laws.specs.Texts.{HasWrittenFront};
 ghost use Rattle.read_world_laws.specs.Beside.{IsDeclined};
 ghost use Rattle.read_world_laws.specs.Inside.{inside};
-ghost use Rattle.play_history_laws.specs.Following.{IsTaken};
+ghost use Rattle.play_history_laws.specs.Following.{IsLoadedAt, IsTaken};
 ghost use Rattle.play_history_laws.specs.Histories.{IsUnasked};
 ghost use Rattle.play_history_laws.specs.Order.{BothHaveTold, Cursor, EachHasHeard, HasHeardOf, IsChangeAct, IsSending, nothing_asked};
 ghost use Rattle.fault_history_laws.specs.Faults.{HasFaultStreams, IsFailedStep, IsFaulty, NoneFailed};
 ghost use Rattle.plan_history_laws.specs.Askings.{IsPlanHistory, asking_of, read_of};
-ghost use Rattle.plan_history_laws.specs.Passes.{RequestAlone, own_steps, steps_of};
-ghost use Rattle.plan_history_laws.specs.Requests.{AreRequested, IsOrdered, requests};
+ghost use Rattle.plan_history_laws.specs.Passes.{AreUnrefused, HaveLines, RequestAlone, own_steps};
+ghost use Rattle.plan_history_laws.specs.Refused.{IsAtPart, is_refused};
+ghost use Rattle.plan_history_laws.specs.Requests.{AreRequested, IsOrdered, is_request_act, requests};
 
 /// The graph of a plan that is ready, once it is assembled, is a world in which nothing of its play was asked and no step has failed. Nothing
 /// flowed yet.
@@ -117,20 +121,54 @@ pub fn law_of_requested_steps()
         → AreRequested assembly handles conducted.links [] steps }
     ensures asks { (plan : PlanValue) (files : PlayFiles) (handles : List Handle) (world : World) (steps : List (Act × Reply)) (cursor : Cursor) (after : World)
         → IsPlanHistory plan files handles world steps cursor after → IsOrdered plan files handles steps cursor }
-    ensures own { (own : ℕ → Bool) (entries : List (ℕ × (Act × Reply))) → RequestAlone own entries → requests (steps_of entries) ≡ requests (own_steps own entries) }
+    ensures own { (own : ℕ → Bool) (entries : List Entry) → RequestAlone own entries → requests (steps_of entries) ≡ requests (own_steps own entries) }
     ensures fronts { (assembly : Assembly) (handles : List Handle) (links : List ℕ) (left front behind : List (Act × Reply))
         → AreRequested assembly handles links left (front ++ behind) → AreRequested assembly handles links (requests behind ++ left) front }
 {}
 
-/// Behind such a run the file of each writer has taken a front of its text, and the whole where all was requested; then no step has failed.
+/// A log leaves out the entries that changed nothing. What was told is the same by the others. Where all was requested and nothing of what
+/// nobody need ask for was refused, the printed steps are conducted. The other way round, what the printed steps request the whole
+/// history does, where each request has a line. And at a component of the plan, and at a port that it has, nothing of what nobody need ask for
+/// is refused.
+pub fn law_of_printed_steps()
+    ensures told { (place : ℕ) (entries : List Entry) → told_by place (steps_of (printed entries)) ≡ told_by place (steps_of entries) }
+    ensures conducted { (assembly : Assembly) (handles : List Handle) (links : List ℕ) (entries : List Entry) (world after : World)
+        → AreRequested assembly handles links [] (steps_of entries) → Run world (steps_of entries) after → AreUnrefused entries
+        → IsConducted assembly handles (steps_of (printed entries)) }
+    ensures requested { (assembly : Assembly) (handles : List Handle) (links : List ℕ) (left : List (Act × Reply)) (entries : List Entry) → HaveLines entries
+        → AreRequested assembly handles links left (steps_of (printed entries)) → AreRequested assembly handles links left (steps_of entries) }
+    ensures unrefused { (plan : PlanValue) (files : PlayFiles) (handles : List Handle) (world : World) (steps : List (Act × Reply)) (cursor : Cursor) (middle : World)
+        → IsPlanHistory plan files handles world steps cursor middle
+        → (act : Act) (reply : Reply) (after : World) → IsAtPart plan handles act → is_request_act act ≡ false → Step middle act reply after → is_refused reply ≡ false }
+{}
+
+/// Behind such a run the file of each writer has taken a front of its text, and the whole where all was requested; then no step has failed,
+/// also where there is no writer.
 pub fn law_of_requested_files()
+    ensures none_failed { (plan : PlanValue) (files : PlayFiles) → IsReady plan files
+        → (handles : List Handle) (world : World) → IsStage (assembly_of plan files) (Joining (length plan.joints)) handles world
+        → (links : List ℕ) (left steps : List (Act × Reply)) → AreRequested (tuned plan files) handles links left steps → (after : World) → Run world steps after
+        → left ≡ [] → NoneFailed after }
     ensures whole { (plan : PlanValue) (files : PlayFiles) (samples : List (List ℕ)) → IsReady plan files → AreSamples plan files samples
         → (handles : List Handle) (world : World) → IsStage (assembly_of plan files) (Joining (length plan.joints)) handles world
         → (links : List ℕ) (left steps : List (Act × Reply)) → AreRequested (tuned plan files) handles links left steps → (after : World) → Run world steps after
-        → left ≡ [] → (place : ℕ) (name : List ℕ) → IsWriter plan.parts place name
-        → HasWritten after place (sink_text plan samples place) × NoneFailed after }
+        → left ≡ [] → (place : ℕ) (name : List ℕ) → IsWriter plan.parts place name → HasWritten after place (sink_text plan samples place) }
     ensures fronts { (plan : PlanValue) (files : PlayFiles) (samples : List (List ℕ)) → IsReady plan files → AreSamples plan files samples
         → (handles : List Handle) (world : World) → IsStage (assembly_of plan files) (Joining (length plan.joints)) handles world
         → (links : List ℕ) (left steps : List (Act × Reply)) → AreRequested (tuned plan files) handles links left steps → (after : World) → Run world steps after
         → (place : ℕ) (name : List ℕ) → IsWriter plan.parts place name → HasWrittenFront after place (sink_text plan samples place) }
+{}
+
+/// Where all was requested and the components rest at the end with every note given, each has told its client that it is Loaded. The other way
+/// round, where each has told it last and no client object is out, the play was done whole.
+pub fn law_of_requested_ends()
+    ensures rests { (plan : PlanValue) (files : PlayFiles) (handles : List Handle) (world : World)
+        → IsReady plan files → IsStage (assembly_of plan files) (Joining (length plan.joints)) handles world
+        → (links : List ℕ) (steps : List (Act × Reply)) → AreRequested (tuned plan files) handles links [] steps → (after : World) → Run world steps after
+        → ((place : ℕ) (component : Component) → slice_get after.components place ≡ Some component → IsLoadedAt component)
+        → AreAllAt (tuned plan files) Loaded steps }
+    ensures ended { (plan : PlanValue) (files : PlayFiles) (handles : List Handle) (world : World)
+        → IsReady plan files → IsStage (assembly_of plan files) (Joining (length plan.joints)) handles world
+        → (links : List ℕ) (steps : List (Act × Reply)) → AreRequested (tuned plan files) handles links [] steps → (after : World) → Run world steps after
+        → AreAllAt (tuned plan files) Loaded steps → All (λ component. component.client_out ≡ false) after.components → IsPlayedOut plan after }
 {}

@@ -10,3 +10,4 @@ pub mod Noted
 pub mod Stopped
 pub mod Cleared
 pub mod Plays
+pub mod Reading

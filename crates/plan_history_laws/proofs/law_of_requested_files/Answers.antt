@@ -3,7 +3,7 @@ use Rattle.plan_history_laws.proofs.law_of_requested_files.Goals as goal
 
 pub returns : goal.returns
 returns c = record {
-  whole = λ plan files samples R F handles w S links left steps A v r none place name I.
-      (requested_whole plan files samples R F handles w S links left steps A v r none place name I, requested_none plan files samples R F handles w S links left steps A v r none place name I);
-  fronts = requested_fronts;
+  none_failed = requested_none;
+  whole = λ plan files samples R F handles w S links left steps A v r. requested_whole plan files R handles w S links left steps A v r samples F;
+  fronts = λ plan files samples R F handles w S links left steps A v r. requested_fronts plan files R handles w S links left steps A v r samples F;
 }
