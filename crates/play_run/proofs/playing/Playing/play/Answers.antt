@@ -9,7 +9,7 @@ pub returns-clause-played : goal.returns-clause-played
 returns-clause-played g c = has_played (ObjectStays g.S.Source.size g.S.Source.told g.S.Source.ends g.S.Source.offset g.S.Source.faults g.K.Sink.name g.K.Sink.faults) c.args.self.now c.play_on.new.player c.play_on.result c.play_on.ensures.all c.play_on.ensures.leads
 
 pub returns-clause-broken_off : goal.returns-clause-broken_off
-returns-clause-broken_off g c = has_broken_off (ObjectStays g.S.Source.size g.S.Source.told g.S.Source.ends g.S.Source.offset g.S.Source.faults g.K.Sink.name g.K.Sink.faults) (ObjectShows g.S.Source.size g.S.Source.ends g.S.Source.offset g.S.Source.faults g.K.Sink.faults) c.args.self.now c.play_on.new.player c.play_on.result (c.requires.play, c.requires.plays) c.play_on.ensures.failed
+returns-clause-broken_off g c = has_broken_off (ObjectStays g.S.Source.size g.S.Source.told g.S.Source.ends g.S.Source.offset g.S.Source.faults g.K.Sink.name g.K.Sink.faults) (ObjectShows g.S.Source.size g.S.Source.ends g.S.Source.offset g.S.Source.faults g.K.Sink.faults) c.args.self.now c.play_on.new.player c.play_on.result (c.requires.play, c.requires.stands) c.play_on.ensures.failed
 
 pub returns-clause-broken_off_with : goal.returns-clause-broken_off_with
 returns-clause-broken_off_with g c = has_broken_off_with (ObjectStays g.S.Source.size g.S.Source.told g.S.Source.ends g.S.Source.offset g.S.Source.faults g.K.Sink.name g.K.Sink.faults) (ObjectShows g.S.Source.size g.S.Source.ends g.S.Source.offset g.S.Source.faults g.K.Sink.faults) c.args.self.now c.play_on.new.player c.play_on.result c.play_on.ensures.failed
