@@ -15,3 +15,7 @@ pub mod Ending
 pub mod Calling
 pub mod OneRun
 pub mod Chaining
+pub mod Failing
+pub mod Faulting
+pub mod Clientless
+pub mod Eventing

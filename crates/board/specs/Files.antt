@@ -1,6 +1,6 @@
--- The file of a component to which none comes in a history: the object that it had at first, read or written further, and what the first fault
--- shows of it.
-use Rattle.std.specs.Prelude.{◌≡◌, ℕ, nat_eq, Bool, true, false, List, [], ◌∷◌, All, Option, Some, None, if◌then◌else◌}
+-- The file of a component to which none comes in a history: the object that it had at first, read or written further, and what the faults of
+-- its steps show of it.
+use Rattle.std.specs.Prelude.{◌≡◌, ℕ, nat_eq, Bool, true, false, List, [], ◌∷◌, All, Option, Some, None, IfSome, slice_get, if◌then◌else◌}
 use Rattle.omx_types.specs.declared.fault.PartFault.{PartFault}
 use Rattle.audio_parts.specs.Objects.{Held}
 use Rattle.audio_parts.specs.declared.part_file.PartFile.{PartFile}
@@ -52,3 +52,13 @@ module _ {S K C : Type 0} (see : Sight S K C) where
   abbrev pub HaveTheirFiles : graphs.Shown S K C → List (Entry (Act S K C) (Reply S K C)) → Type 0
   HaveTheirFiles first log = (number : ℕ) → All (λ e. brings_file number e.act ≡ false) log → (file : PartFile S K) → files_by (files_in first) log number ≡ Some file
       → IsFileOf (files_in first number) (fault_by number None log) file
+
+  -- and each fault that a step of the component answered shows in it
+  abbrev pub ShowTheirFaults : graphs.Shown S K C → List (Entry (Act S K C) (Reply S K C)) → Type 0
+  ShowTheirFaults first log = (number : ℕ) → All (λ e. brings_file number e.act ≡ false) log → (file : PartFile S K) → files_by (files_in first) log number ≡ Some file
+      → All (λ e. IfSome (fault_in number e.act) (λ fault. IsFaulted see.reads see.writes fault (held_as false (files_in first number)) (held_as true (Some file)))) log
+
+module _ {S K C : Type 0} where
+  -- the faults of a component have one place
+  abbrev pub FailOnce : List (Entry (Act S K C) (Reply S K C)) → Type 0
+  FailOnce log = (number i j : ℕ) (d e : Entry (Act S K C) (Reply S K C)) (f g : PartFault) → slice_get log i ≡ Some d → slice_get log j ≡ Some e → fault_in number d.act ≡ Some f → fault_in number e.act ≡ Some g → i ≡ j

@@ -9,3 +9,4 @@ pub mod Boards
 pub mod Together
 pub mod Opening
 pub mod Files
+pub mod Notes

@@ -1,18 +1,20 @@
 //! What the machine's laws say of a history of turns, stated on a function that does nothing.
-ghost use Rattle.std.specs.Prelude.{ℕ, List};
+ghost use Rattle.std.specs.Prelude.{◌≡◌, ℕ, false, List};
 ghost use Rattle.il_machine.specs.World.{World, no_world};
 ghost use Rattle.il_machine.specs.Acts.{Act as MachineAct, Reply as MachineReply};
 ghost use Rattle.il_machine.specs.Run.{Run};
 ghost use Rattle.il_machine.specs.Whole.{Stands};
 ghost use Rattle.il_graph.specs.Shown.{kept};
 ghost use Rattle.turnstile.specs.declared.entry.Entry.{Entry};
+ghost use Rattle.turnstile.specs.Entries.{Met};
 ghost use Rattle.graph_acts.specs.Plain.{sight_of};
 ghost use Rattle.board.specs.declared.asked.Asked.{Asked};
 ghost use Rattle.board.specs.declared.asked.Told.{Told};
 ghost use Rattle.board.specs.declared.watched.Watched.{Watched};
 ghost use Rattle.board.specs.Asking.{ArePlain, bare_log};
-ghost use Rattle.board.specs.Files.{HaveTheirFiles};
-ghost use Rattle.board.specs.Histories.{Legal, graph_of};
+ghost use Rattle.board.specs.Files.{HaveTheirFiles, ShowTheirFaults, FailOnce};
+ghost use Rattle.board.specs.Histories.{Legal, MayAsk, graph_of};
+ghost use Rattle.board.specs.Notes.{GiveNoHeaders, HasNoClientHeaders};
 ghost use Rattle.board.specs.Together.{AreOneRun};
 
 use note_queues::Client;
@@ -27,7 +29,16 @@ pub fn law_of_histories<S: Source, K: Sink, C: Client>()
 {}
 
 /// After a legal history in which no file comes to a component, its file in the graph is the object that it had at first, read or written
-/// further; and where a step of it answered a fault, that shows in the object.
+/// further, and each fault that a step of it answered shows in the object. A component fails once.
 pub fn law_of_files<S: Source, K: Sink, C: Client>()
-    ensures { (first : Watched S K C) (log : List (Entry (Asked S K C) (Told S K C))) → Legal (sight_of C.Client S.Source K.Sink) first log → HaveTheirFiles (sight_of C.Client S.Source K.Sink) (graph_of first) (bare_log log) }
+    ensures files { (first : Watched S K C) (log : List (Entry (Asked S K C) (Told S K C))) → Legal (sight_of C.Client S.Source K.Sink) first log → HaveTheirFiles (sight_of C.Client S.Source K.Sink) (graph_of first) (bare_log log) }
+    ensures faults { (first : Watched S K C) (log : List (Entry (Asked S K C) (Told S K C))) → Legal (sight_of C.Client S.Source K.Sink) first log → ShowTheirFaults (sight_of C.Client S.Source K.Sink) (graph_of first) (bare_log log) }
+    ensures once { (first : Watched S K C) (log : List (Entry (Asked S K C) (Told S K C))) → Legal (sight_of C.Client S.Source K.Sink) first log → FailOnce (bare_log log) }
+{}
+
+/// Where clients are given no headers, and no header of the first graph was at home with one, no reply of a legal history gives one: each
+/// note that is taken tells an event.
+pub fn law_of_event_notes<S: Source, K: Sink, C: Client>()
+    ensures { (first : Watched S K C) (log : List (Entry (Asked S K C) (Told S K C))) → C.HEADERS ≡ false → HasNoClientHeaders (graph_of first)
+        → Legal (sight_of C.Client S.Source K.Sink) first log → Met (MayAsk (sight_of C.Client S.Source K.Sink) C.HEADERS first) log → GiveNoHeaders (bare_log log) }
 {}

@@ -19,7 +19,7 @@ mod watched;
 pub use asked::{Asked, Told};
 pub use boards::Board;
 pub use graph_acts::{Act, DoneWork, LentClaim, LentWork, Reply};
-pub use laws::{law_of_files, law_of_histories};
+pub use laws::{law_of_event_notes, law_of_files, law_of_histories};
 pub use making::OutOfMemory;
 pub use pass::BoardPass;
 pub use row::ActRow;
