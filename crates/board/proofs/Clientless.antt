@@ -1,10 +1,9 @@
 -- Where no header is at home with a client, and none is asked for, none comes to one.
-use Rattle.std.proofs.Common.{◌≡◌, ◌≢◌, ◌⊎◌, inl, inr, ℕ, Bool, true, false, List, [], ◌∷◌, ◌++◌, drop, slice_get, Option, Some, None, option_map, Ok, MatchOption, refl, sym, ◌∙◌, ap, subst}
+use Rattle.std.proofs.Common.{◌≡◌, ◌≢◌, ◌⊎◌, inl, inr, ℕ, Bool, true, false, List, [], ◌∷◌, ◌++◌, drop, slice_get, Option, Some, None, option_map, Ok, refl, sym, ◌∙◌, ap, subst}
 use Rattle.std.proofs.lemmas.Bool.{cases_eq}
 use Rattle.omx_types.specs.declared.handle.Handle.{Handle}
 use Rattle.omx_types.specs.declared.command.Note.{Note}
 use Rattle.omx_types.specs.declared.command.Note.TheVariants.{Told, EmptyDone, FillDone}
-use Rattle.il_machine.specs.declared.header.Home.{Home}
 use Rattle.il_machine.specs.declared.header.Home.TheVariants as homes
 use Rattle.il_machine.specs.declared.header.Owner.{Owner}
 use Rattle.il_machine.specs.declared.header.Owner.TheVariants as owners
@@ -13,7 +12,7 @@ use Rattle.il_machine.specs.Headers.{Once, empty_load, find_header, state_of, wi
 use Rattle.il_machine.specs.Look.{look}
 use Rattle.il_machine.specs.Answers.{plain}
 use Rattle.il_machine.specs.Census.{note_numbers}
-use Rattle.il_machine.specs.Notes.{Taken, TakenEvent, TakenEmpty, TakenFilled, Took, TookNote, TookNone, TookBusy, TakeFrom}
+use Rattle.il_machine.specs.Notes.{Taken, TakenEvent, TookNote, TookNone, TookBusy, TakeFrom}
 use Rattle.il_machine.specs.Acts.{Act, Reply}
 use Rattle.il_machine.specs.Acts as acts
 use Rattle.il_machine.specs.Run.{Meets, Step}

@@ -1,10 +1,10 @@
 -- No reply of a history gives a header, where no client had one at first and none may ask for one.
-use Rattle.std.proofs.Common.{◌≡◌, ℕ, zero, suc, Bool, true, false, List, [], ◌∷◌, ◌++◌, Option, Some, None, Ok, Err, Result, option_map, slice_get, inl, inr, refl, sym, ◌∙◌, ap, subst}
+use Rattle.std.proofs.Common.{◌≡◌, ℕ, zero, suc, Bool, false, List, [], ◌∷◌, Some, None, Ok, Err, Result, option_map, slice_get, inl, inr, refl, sym, ◌∙◌, ap, subst}
 use Rattle.omx_types.specs.declared.error.OmxError.{OmxError}
 use Rattle.il_machine.specs.World.{World}
-use Rattle.il_machine.specs.Headers.{find_header, state_of}
+use Rattle.il_machine.specs.Headers.{state_of}
 use Rattle.il_machine.specs.Acts as acts
-use Rattle.il_machine.specs.Run.{Meets, Run, Step}
+use Rattle.il_machine.specs.Run.{Run, Step}
 use Rattle.il_machine.specs.Sound.{Sound}
 use Rattle.il_machine.specs.Whole.{Stands}
 use Rattle.machine_laws.proofs.Every.{at_push, from_places}

@@ -13,7 +13,7 @@ use Rattle.il_machine.specs.Answers.{plain, Answers}
 use Rattle.il_machine.specs.Components.{free_refusal, get_handle_refusal, with_new_component, without_component}
 use Rattle.il_machine.specs.Files.{Offered, attach_refusal, attached, with_file}
 use Rattle.il_machine.specs.Claims.{Claimed, ClaimedWork, Claims, WorkSeen, claim_idle, with_work, work_of}
-use Rattle.il_machine.specs.Stepping.{WorkDone, IsAnnounced, IsDoneBy}
+use Rattle.il_machine.specs.Stepping.{WorkDone, IsDoneBy}
 use Rattle.il_machine.specs.Finishing.{announced, announced_at, finished, finished_by, part_by, stepped_back, with_landed}
 use Rattle.il_machine.specs.Acts.{Act, Reply}
 use Rattle.il_machine.specs.Acts as acts
@@ -122,7 +122,14 @@ comes_in w done v S M F =
     (λ a.
     let same = announced_same (port_of c 0) (record c { work = None }) in
     let mid = with_component i (announced c) w in record {
-      place = i; was = c; now = announced c; mid = mid; there = B.there; out = (work, B.out); number = B.number; changed = refl;
+      place = i;
+      was = c;
+      now = announced c;
+      mid = mid;
+      there = B.there;
+      out = (work, B.out);
+      number = B.number;
+      changed = refl;
       closes = subst (λ (m : World). ClosesTo m v) (e ∙ announces_is w done i c work a) x.4;
       same = same.0;
       is_in = same.1;
@@ -134,7 +141,14 @@ comes_in w done v S M F =
     let s : Stream = L.stream in
     let f : stream_of (number_of c) w ≡ Some s = ap (λ (k : ℕ). stream_of k w) B.number ∙ L.found in
     let mid = with_landed i c done s w in record {
-      place = i; was = c; now = stepped_back c s done; mid = mid; there = B.there; out = (work, B.out); number = B.number; changed = refl;
+      place = i;
+      was = c;
+      now = stepped_back c s done;
+      mid = mid;
+      there = B.there;
+      out = (work, B.out);
+      number = B.number;
+      changed = refl;
       closes = subst (λ (m : World). ClosesTo m v) (e ∙ stepped_is w done i c work s n f) x.4;
       same = refl;
       is_in = refl;

@@ -1,5 +1,5 @@
 -- A component fails once in a history, so that each fault is its first one.
-use Rattle.std.proofs.Common.{◌≡◌, ℕ, zero, suc, nat_eq, true, false, List, [], ◌∷◌, All, Option, Some, None, IfSome, MatchOption, slice_get, refl, sym, ◌∙◌, ap, subst, eqb-true}
+use Rattle.std.proofs.Common.{◌≡◌, ℕ, zero, suc, nat_eq, true, false, List, [], ◌∷◌, Option, Some, None, IfSome, MatchOption, slice_get, refl, sym, ◌∙◌, ap, subst, eqb-true}
 use Rattle.omx_types.specs.declared.fault.PartFault.{PartFault}
 use Rattle.il_machine.specs.World.{World}
 use Rattle.il_machine.specs.Acts as acts
@@ -16,11 +16,11 @@ use Rattle.graph_acts.specs.declared.act.Act.{Act}
 use Rattle.graph_acts.specs.declared.act.Act.TheVariants as asks
 use Rattle.graph_acts.specs.declared.act.Reply.{Reply}
 use Rattle.graph_acts.specs.declared.act.Reply.TheVariants as replies
-use Rattle.graph_acts.specs.Objects.{files_by, files_in}
+use Rattle.graph_acts.specs.Objects.{files_in}
 use Rattle.graph_acts.specs.Plain.{Sight, Unsaid, plain_act, plain_reply}
 use Rattle.graph_acts.specs.Working.{IsFaulted}
 use Rattle.board.specs.Asking.{ArePlain}
-use Rattle.board.specs.Files.{IsFileOf, HaveTheirFiles, ShowTheirFaults, brings_file, fault_by, fault_in, first_fault, held_as}
+use Rattle.board.specs.Files.{IsFileOf, HaveTheirFiles, ShowTheirFaults, fault_by, fault_in, first_fault, held_as}
 use Rattle.board.proofs.Failing.{HasFailed, failed_still, fails_so, none_again}
 
 module _ {S K C : Type 0} (see : Sight S K C) (number : ℕ) where
@@ -68,14 +68,14 @@ module _ {S K C : Type 0} (see : Sight S K C) (number : ℕ) where
   fails_once (x ∷ log) (y ∷ xs) w v sound A (mid, M, s, R) zero (suc j) d e f g at bt p q =
       let is : x ≡ d = cc in
       let F = act_fails x.act x.reply A.0.0 w mid sound (subst (λ (z : acts.Act × acts.Reply). Meets w z.0) A.0.1 M) (subst (λ (z : acts.Act × acts.Reply). Step w z.0 z.1 mid) A.0.1 s) f
-          (ap (λ (z : Entry (Act S K C) (Reply S K C)). fault_in number z.act) is ∙ p) in
+      (ap (λ (z : Entry (Act S K C) (Reply S K C)). fault_in number z.act) is ∙ p) in
       let none = none_after log xs mid v (sound_step w mid y.0 y.1 M s sound) A.1 R F j e bt in
       let no : None ≡ Some g = sym none ∙ q in
       absurd cc
   fails_once (x ∷ log) (y ∷ xs) w v sound A (mid, M, s, R) (suc i) zero d e f g at bt p q =
       let is : x ≡ e = cc in
       let F = act_fails x.act x.reply A.0.0 w mid sound (subst (λ (z : acts.Act × acts.Reply). Meets w z.0) A.0.1 M) (subst (λ (z : acts.Act × acts.Reply). Step w z.0 z.1 mid) A.0.1 s) g
-          (ap (λ (z : Entry (Act S K C) (Reply S K C)). fault_in number z.act) is ∙ q) in
+      (ap (λ (z : Entry (Act S K C) (Reply S K C)). fault_in number z.act) is ∙ q) in
       let none = none_after log xs mid v (sound_step w mid y.0 y.1 M s sound) A.1 R F i d at in
       let no : None ≡ Some f = sym none ∙ p in
       absurd cc
