@@ -39,7 +39,7 @@ pub sample_step : (bs : List ℕ) (to : List ℤ) (i : ℕ) (y : ℤ) → i < le
 sample_step bs to i y l two before e =
     take_more_set to i y l ∙ ap (λ k. k ++ y ∷ []) before ∙ ap (λ z. samples (take (2 * i) bs) ++ z ∷ []) e ∙ sym (more_samples bs i (omega arith))
 
-bytes-append : (xs ys : List ℤ) → bytes (xs ++ ys) ≡ bytes xs ++ bytes ys
+pub bytes-append : (xs ys : List ℤ) → bytes (xs ++ ys) ≡ bytes xs ++ bytes ys
 unfolding bytes
 bytes-append [] ys = refl
 bytes-append (x ∷ xs) ys = ap (λ k. of_z w16 x % 256 ∷ of_z w16 x / 256 ∷ k) (bytes-append xs ys)

@@ -3,4 +3,5 @@ pub mod Pieces
 pub mod Scaling
 pub mod Bits
 pub mod Mixing
+pub mod ByteLanes
 pub mod ByteOrder

@@ -13,3 +13,4 @@ pub mod Spelling
 pub mod Piecing
 pub mod Merging
 pub mod Placing
+pub mod Choosing

@@ -1,14 +1,14 @@
 -- Lines with places: words that stand in a table, and the text of several lists.
-use Rattle.std.proofs.Common.{◌≡◌, ℕ, zero, suc, ◌+◌, ◌<◌, ◌≤◌, ltb, cond, Bool, true, false, List, [], ◌∷◌, ◌++◌, length, take, drop, All, Option, Some, None, slice_get, option_map, refl, sym, ap, ◌∙◌, subst, arith, append_assoc, append-nil, length-append}
+use Rattle.std.proofs.Common.{◌≡◌, ℕ, zero, suc, ◌+◌, ◌<◌, ◌≤◌, ltb, cond, Bool, true, false, List, [], ◌∷◌, ◌++◌, length, take, drop, Option, Some, slice_get, option_map, refl, sym, ap, ◌∙◌, subst, arith, append_assoc, append-nil, length-append}
 use Rattle.std.specs.Prelude.{codes, map, slice_index_or}
 use Rattle.std.specs.Fmt.{decimal}
 use Rattle.std.proofs.lemmas.List.{length-take, map-append, take-append-drop, take_more}
 use Rattle.std.proofs.lemmas.List.Elements.{All-head, All-push, All-tail}
-use Rattle.std.proofs.lemmas.Option.{slice_get-map, slice_get_within}
+use Rattle.std.proofs.lemmas.Option.{slice_get-map}
 use Rattle.act_text.specs.Texts.{act_text}
 use Rattle.play_log.specs.Lines.{LogLine, line_text, lines_from, log_text}
 use Rattle.play_log.specs.Merged.{Leads, left_of, merged, merged_all, rest_without, weave}
-use Rattle.play_log.specs.Places.{AreKeptAt, AreSpelled, IsKeptAt, PassLogValue, PlacedLine, PlacedText, line_place, lists_of, numbered, numbered_from, placed_spelled, placed_text, rest_text, text_place}
+use Rattle.play_log.specs.Places.{AreKeptAt, AreSpelled, PassLogValue, PlacedLine, PlacedText, line_place, lists_of, numbered, numbered_from, placed_spelled, placed_text, rest_text, text_place}
 use Rattle.play_log.specs.Spelled.{Begins, number_in, rest_spelled}
 use Rattle.play_log.specs.declared.placed.Placed.{Placed}
 use Rattle.play_log.proofs.Spelling.{regrouped, rest_first}

@@ -3,6 +3,7 @@ pub mod Spelled
 pub mod Full
 pub mod Merged
 pub mod Places
+pub mod Choosing
 pub mod Forms
 pub mod Gathering
 pub mod Kept

@@ -1,5 +1,5 @@
 -- Lines whose words stand in a table.
-use Rattle.std.specs.Prelude.{◌≡◌, ℕ, ◌+◌, ◌<◌, List, [], ◌∷◌, ◌++◌, All, Option, Some, None, codes, length, slice_get, slice_index_or}
+use Rattle.std.specs.Prelude.{◌≡◌, ℕ, ◌+◌, ◌<◌, List, [], ◌∷◌, ◌++◌, All, codes, length, slice_index_or}
 use Rattle.std.specs.Fmt.{decimal}
 use Rattle.act_text.specs.Texts.{act_text}
 use Rattle.play_log.specs.declared.line.Line.{Line}

@@ -1,12 +1,15 @@
 //! What must hold of logs, stated on a function that does nothing.
 
-ghost use Rattle.std.specs.Prelude.{[], ◌∷◌, ◌++◌, false, ◌≡◌, ◌^◌, ◌<◌, ℕ, List, All, length, true};
+ghost use Rattle.std.specs.Prelude.{[], ◌∷◌, ◌++◌, false, ◌≡◌, ◌^◌, ◌<◌, ℕ, List, All, Option, length, true};
 ghost use Rattle.il_machine.specs.World.{World};
 ghost use Rattle.il_machine.specs.Due.{IsClosed};
 ghost use Rattle.il_machine.specs.Run.{Meets, Run, Step};
 ghost use Rattle.il_machine.specs.Sound.{Sound};
 ghost use Rattle.play_log.specs.Entries.{Entry, is_unprinted, printed, steps_of};
+ghost use Rattle.play_log.specs.Choosing.{chosen, lists_by};
 ghost use Rattle.play_log.specs.Lines.{LogLine, IsLogLine, lines_of};
+ghost use Rattle.play_log.specs.Merged.{merged_all};
+ghost use Rattle.play_log.specs.Places.{line_place};
 ghost use Rattle.play_log.specs.Logged.{AreLinesOf, IsLogged};
 ghost use Rattle.play_log.specs.Saying.{Says};
 ghost use Rattle.play_log.specs.Naming.{AreTelling, IsNaming, IsUnbroken};
@@ -35,4 +38,10 @@ pub fn law_of_lines()
         → AreLinesOf scene (history ++ entry ∷ []) (lines ++ lines_of line.pass line.said) }
     ensures left_out { (scene : Scene) (history : List Entry) (lines : List LogLine) (entry : Entry)
         → AreLinesOf scene history lines → is_unprinted entry.reply ≡ true → AreLinesOf scene (history ++ entry ∷ []) lines }
+{}
+
+/// The lines of the passes of a history, each pass's in a list of its own with their places, make the lines of the whole history, merged.
+pub fn law_of_merged_lines<E>()
+    ensures { (pass : E → ℕ) (says : E → Option LogLine) (passes : ℕ) (entries : List E) → All (λ e. pass e < passes) entries
+        → merged_all line_place (lists_by pass says 0 passes entries) ≡ chosen says 0 entries }
 {}

@@ -17,7 +17,7 @@ pub mod texts;
 mod words;
 
 pub use entry::Entry;
-pub use laws::{law_of_lines, law_of_logs};
+pub use laws::{law_of_lines, law_of_logs, law_of_merged_lines};
 pub use line::Line;
 pub use log::Log;
 pub use log_text::{LogText, write_log};

@@ -1,6 +1,7 @@
 -- A row among the others, in the order of their components' numbers.
-use Rattle.std.proofs.Common.{◌≡◌, ◌⊎◌, inl, inr, ℕ, ◌+◌, ◌<◌, ◌≤◌, Bool, true, false, not, ◌||◌, List, [], ◌∷◌, ◌++◌, drop, length, filter, if◌then◌else◌, Option, Some, None, refl, sym, ◌∙◌, ap, arith}
+use Rattle.std.proofs.Common.{◌≡◌, ◌⊎◌, inl, inr, ℕ, ◌+◌, ◌<◌, ◌≤◌, Bool, true, false, not, ◌||◌, List, [], ◌∷◌, ◌++◌, drop, length, filter, set, slice_get, if◌then◌else◌, Option, Some, None, refl, sym, ◌∙◌, ap, arith}
 use Rattle.std.specs.Prelude.{nat_eq, nat_lt, insert, is_some}
+use Rattle.std.specs.List.{refill}
 use Rattle.std.proofs.Math.Seq.{take-append_seam, drop-append_seam}
 use Rattle.std.proofs.lemmas.List.{length-append}
 use Rattle.std.proofs.lemmas.Bool.{cases_lt, lt-ltb, le-ltb, eq-eqb, ne_eqb, ltb-true}
@@ -186,3 +187,40 @@ others_fit c rows place few = elim (place_cases (is_some (row_of c rows)) (lengt
 
 pub place-le : (c : ℕ) (rows : List Row) → AreRising rows → length (filter (is_below c) rows) ≤ length (filter (is_other c) rows)
 place-le c rows rising = omega (arith, ap length (others_placed c rows rising), length-append (filter (is_below c) rows) (filter (is_above c) rows))
+
+-- ---- a row that stands in its place
+
+pub with_row-replaced : (r old : Row) (rows : List Row) → AreRising rows → is_kept r ≡ true → slice_get rows (length (filter (is_below r.component) rows)) ≡ Some old → old.component ≡ r.component
+    → set rows (length (filter (is_below r.component) rows)) r ≡ with_row r rows
+with_row-replaced r old [] rising kept at same = absurd cc
+with_row-replaced r old (x ∷ rows) rising kept at same = elim (compared r.component x) [
+  | inl l ↦
+      let b = l.below in
+      let a = l.above in
+      let later : slice_get rows (length (filter (is_below r.component) rows)) ≡ Some old = rw b at at in
+      rw (b, a) (ap (λ (xs : List Row). x ∷ xs) (with_row-replaced r old rows rising.1 kept later same))
+  | inr s ↦ elim s [
+    | inl e ↦
+        let b = e.below in
+        let a = e.above in
+        let n = e.number in
+        let none : filter (is_below r.component) rows ≡ [] = none_below r.component x.component rows (omega (arith, n)) rising.0 in
+        let all : filter (is_above r.component) rows ≡ rows = all_above r.component x.component rows (omega (arith, n)) rising.0 in
+        rw (b, a, none, all, kept) refl
+    | inr g ↦
+        let b = g.below in
+        let n = g.number in
+        let none : filter (is_below r.component) rows ≡ [] = none_below r.component x.component rows (omega (arith, n)) rising.0 in
+        let here : Some x ≡ Some old = rw (b, none) at at in
+        let is : x ≡ old = cc in
+        let k : x.component ≡ r.component = ap (λ (y : Row). y.component) is ∙ same in
+        absurd (omega (arith, n, k))
+  ]
+]
+
+-- as many rows are written back
+pub refilled : (xs ws : List Row) → length ws ≡ length xs → refill (length xs) xs ws ≡ ws
+refilled [] [] e = refl
+refilled [] (w ∷ ws) e = absurd (omega (arith, e))
+refilled (x ∷ xs) [] e = absurd (omega (arith, e))
+refilled (x ∷ xs) (w ∷ ws) e = ap (λ (l : List Row). w ∷ l) (refilled xs ws (omega (arith, e)))

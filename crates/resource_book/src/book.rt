@@ -1,6 +1,6 @@
 //! The book of a resource: units are asked for and given back, who waits, and who gives its own up.
 
-ghost use Rattle.std.specs.Prelude.{◌≡◌, ◌<◌, ◌≤◌, ◌^◌, true, false, not, length, filter, option_map, if◌then◌else◌};
+ghost use Rattle.std.specs.Prelude.{◌≡◌, ◌<◌, ◌≤◌, ◌^◌, true, false, not, length, filter, set, slice_get, Some, MatchBool, option_map, if◌then◌else◌};
 ghost use Rattle.resource_book.specs.Rows.{units_held, is_returning, is_kept, is_waiter, is_of, is_below, is_before, is_weaker, gives_first, better, first_waiter, weakest, victim, IsFirstToGet, IsFirstToGive, row_at, has_place, with_row, AreRising, component_of, given_back, marked_back, left};
 ghost use Rattle.resource_book.specs.declared.row.Row.{Row as RowOf};
 ghost use Rattle.resource_book.specs.Account.{IsSound};
@@ -87,17 +87,34 @@ fn remove(rows: &mut Rows, component: u64)
     rows.retain(|row| row.component != component);
 }
 
+/// Puts the row in place of its component's, where that stands at the place, and answers whether it did.
+fn replace_row(rows: &mut [Row], place: usize, row: Row) -> bool
+    ensures { MatchBool result ((old : RowOf) × (slice_get rows.old place ≡ Some old) × (old.component ≡ row.component) × (rows.new ≡ set rows.old place row)) (rows.new ≡ rows.old) }
+{
+    if place >= rows.len() || rows[place].component != row.component {
+        return false;
+    }
+    rows[place] = row;
+    true
+}
+
 /// Puts the row in place of its component's.
 fn place_row(rows: &mut Rows, row: Row)
     requires rising { AreRising rows.old.items }
     requires room { is_kept row ≡ true → has_place row.component rows.old.items ≡ true }
     ensures { rows.new.items ≡ with_row row rows.old.items }
 {
-    let place = place_of(rows.as_slice(), row.component);
-    remove(rows, row.component);
-    if row.is_kept() {
-        rows.insert(place, row);
+    if !row.is_kept() {
+        remove(rows, row.component);
+        return;
     }
+    let place = place_of(rows.as_slice(), row.component);
+    // Most rows change where they stand.
+    if replace_row(rows.as_mut_slice(), place, row) {
+        return;
+    }
+    remove(rows, row.component);
+    rows.insert(place, row);
 }
 
 /// The row if it waits and no later row goes before it, else the best of the later ones.

@@ -7,3 +7,9 @@ invariant-loop-i l = record { within : l.i ≤ length l.from; two_each : length 
 
 abbrev pub decreases-loop-i : goal.decreases-loop-i
 decreases-loop-i l = length l.from - l.i
+
+abbrev pub invariant-loop-i-2 : goal.invariant-loop-i-2
+invariant-loop-i-2 l = record { within : l.i ≤ length l.from; two_each : length l.to ≡ 2 * length l.from; written : take (2 * l.i) l.to ≡ bytes (take l.i l.from) }
+
+abbrev pub decreases-loop-i-2 : goal.decreases-loop-i-2
+decreases-loop-i-2 l = length l.from - l.i

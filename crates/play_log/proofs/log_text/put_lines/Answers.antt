@@ -1,4 +1,4 @@
-use Rattle.std.proofs.Common.{◌≡◌, ◌≤◌, ◌<◌, ◌+◌, ℕ, take, drop, length, refl, ap, sym, ◌∙◌, subst, arith, rules, Ok}
+use Rattle.std.proofs.Common.{◌≡◌, ◌<◌, ◌+◌, take, length, refl, ap, ◌∙◌, subst, arith, rules, Ok}
 use Rattle.std.specs.Result.{is_ok}
 use Rattle.std.proofs.lemmas.List.{take_all}
 use Rattle.play_log.specs.Gathering.{Puts}

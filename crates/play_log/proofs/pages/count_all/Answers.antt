@@ -1,8 +1,7 @@
-use Rattle.std.proofs.Common.{◌≡◌, ◌<◌, ◌≤◌, ◌+◌, ◌++◌, ◌∷◌, [], false, ℕ, List, All, length, take, sym, ap, ◌∙◌, subst, arith, rules}
-use Rattle.std.specs.Prelude.{map}
+use Rattle.std.proofs.Common.{◌≡◌, ◌+◌, ◌++◌, ◌∷◌, [], false, ℕ, List, All, length, take, sym, ap, ◌∙◌, subst, arith, rules}
 use Rattle.std.proofs.lemmas.List.{map-append, take_all, take_more}
 use Rattle.std.proofs.lemmas.List.Elements.{All-push}
-use Rattle.play_log.specs.Places.{PassLogValue, PlacedText, lists_of, text_place}
+use Rattle.play_log.specs.Places.{PassLogValue, lists_of, text_place}
 use Rattle.play_log.proofs.Merging.{all_length, total, total_more}
 use Rattle.play_log.proofs.pages.count_all.Goals as goal
 

@@ -1,4 +1,4 @@
-use Rattle.std.proofs.Common.{◌≡◌, ◌≤◌, length}
+use Rattle.std.proofs.Common.{◌≤◌, length}
 use Rattle.play_log.specs.Merged.{IsLeader}
 use Rattle.play_log.specs.Places.{lists_of, text_place}
 use Rattle.play_log.proofs.pages.first.Given as goal

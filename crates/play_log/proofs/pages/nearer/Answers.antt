@@ -1,4 +1,4 @@
-use Rattle.std.proofs.Common.{◌≡◌, ◌<◌, ◌≤◌, ◌+◌, [], ℕ, List, Option, None, Some, length, option_map, slice_get, slice_index_or, subst, sym, ap, ◌∙◌, arith, rules}
+use Rattle.std.proofs.Common.{◌≡◌, ◌<◌, ◌≤◌, ◌+◌, [], ℕ, List, None, Some, length, slice_get, slice_index_or, subst, sym, ap, ◌∙◌, arith}
 use Rattle.play_log.specs.Merged.{IsLeader, Leads}
 use Rattle.play_log.specs.Places.{PassLogValue, PlacedText, lists_of, text_place}
 use Rattle.play_log.proofs.Merging.{leader_kept, mapped_get, mapped_length, placed_none, placed_some, some_before, some_behind, some_none}

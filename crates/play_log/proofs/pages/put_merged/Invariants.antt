@@ -1,4 +1,4 @@
-use Rattle.std.proofs.Common.{◌≡◌, ◌≤◌, take, drop, length, Ok}
+use Rattle.std.proofs.Common.{◌≡◌, take, drop, Ok}
 use Rattle.outside_io.specs.Keeping.{KeepsSink}
 use Rattle.play_log.specs.Gathering.{Puts}
 use Rattle.play_log.specs.Merged.{left_of, merged_all}

@@ -1,8 +1,8 @@
-use Rattle.std.proofs.Common.{◌≡◌, ◌+◌, ◌++◌, ℕ, List, Vec, Global, [], length, refl, ap, sym, ◌∙◌, subst, append_assoc}
+use Rattle.std.proofs.Common.{◌+◌, ◌++◌, ℕ, List, Vec, Global, length, ap, sym, ◌∙◌, append_assoc}
 use Rattle.std.specs.Prelude.{codes}
 use Rattle.std.specs.List.{flat_map}
 use Rattle.std.specs.Result.{is_ok}
-use Rattle.play_log.specs.Spelled.{AreThere, spelled_from}
+use Rattle.play_log.specs.Spelled.{spelled_from}
 use Rattle.play_log.specs.declared.line.Line.{Line}
 use Rattle.play_log.proofs.Gathering.{puts_failed, puts_then}
 use Rattle.play_log.proofs.Spelling.{last_lines, part_last, parts_spelled}

@@ -1,4 +1,4 @@
-use Rattle.std.proofs.Common.{ℕ, ◌<◌, ◌^◌, arith}
+use Rattle.std.proofs.Common.{◌<◌, ◌^◌, arith}
 use Rattle.play_log.proofs.Keeping.{keeps_more}
 use Rattle.play_log.proofs.log.Log.entry.Goals as goal
 

@@ -1,4 +1,4 @@
-use Rattle.std.proofs.Common.{◌≡◌, ◌+◌, ℕ, subst, sym, ◌∙◌}
+use Rattle.std.proofs.Common.{◌≡◌, ◌+◌, subst, sym, ◌∙◌}
 use Rattle.play_log.specs.Kept.{IsKept}
 use Rattle.play_log.proofs.Keeping.{on_err}
 use Rattle.play_log.proofs.Spelling.{kept_on, line_rest, text_still}

@@ -1,6 +1,6 @@
-use Rattle.std.proofs.Common.{◌≡◌, ◌+◌, ◌++◌, ◌∷◌, [], ℕ, List, length, length-append, refl, ap, ◌∙◌, arith, rules}
+use Rattle.std.proofs.Common.{◌≡◌, ◌+◌, ◌++◌, ◌∷◌, [], length, length-append, refl, ap, ◌∙◌, arith, rules}
 use Rattle.play_log.specs.Lines.{LogLine}
-use Rattle.play_log.specs.Places.{PassLogValue, PlacedText, rest_text}
+use Rattle.play_log.specs.Places.{PassLogValue, rest_text}
 use Rattle.play_log.specs.declared.placed.Placed.{Placed}
 use Rattle.play_log.proofs.Keeping.{on_err}
 use Rattle.play_log.proofs.Placing.{log_still, placed_on, spelled_on}

@@ -1,4 +1,4 @@
-use Rattle.std.proofs.Common.{◌≡◌, ◌<◌, ◌+◌, ◌^◌, ℕ, Some, length, map, slice_get, sym, ap, ◌∙◌, subst, arith}
+use Rattle.std.proofs.Common.{◌≡◌, ◌+◌, Some, length, map, slice_get, sym, ap, ◌∙◌, subst, arith}
 use Rattle.std.specs.Result.{is_ok}
 use Rattle.play_log.specs.Gathering.{Puts}
 use Rattle.play_log.specs.Places.{PassLogValue, PlacedText, numbered, placed_spelled}

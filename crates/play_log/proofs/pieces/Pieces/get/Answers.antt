@@ -1,4 +1,4 @@
-use Rattle.std.proofs.Common.{◌≡◌, ◌<◌, ◌≤◌, ◌/◌, ◌%◌, ◌*◌, ◌+◌, ◌-◌, ◌++◌, ℕ, List, Vec, Global, length, slice_get, sym, ap, ◌∙◌, arith, rules}
+use Rattle.std.proofs.Common.{◌≡◌, ◌<◌, ◌≤◌, ◌/◌, ◌%◌, ◌*◌, ◌+◌, ◌-◌, ℕ, length, slice_get, sym, ap, ◌∙◌, arith, rules}
 use Rattle.play_log.proofs.Piecing.{in_piece, in_last}
 use Rattle.play_log.proofs.pieces.Pieces.get.Goals as goal
 
