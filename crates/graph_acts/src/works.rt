@@ -18,6 +18,7 @@ use il_graph::{Claimed as Answer, Done};
 use note_queues::Client;
 use omx_types::{Handle, OmxError};
 use outside_io::{Sink, Source};
+use part_api::PartFault;
 
 impl<S: Source, K: Sink> LentWork<S, K> {
     /// Does the step of the work, away from its graph. The pass that got the work may then bring it back.
@@ -31,6 +32,20 @@ impl<S: Source, K: Sink> LentWork<S, K> {
 }
 
 impl<S: Source, K: Sink> DoneWork<S, K> {
+    /// The component whose work it was.
+    pub fn component(&self) -> Handle
+        ensures { result ≡ self.now.component }
+    {
+        self.done.component()
+    }
+
+    /// The fault by which the step failed.
+    pub fn fault(&self) -> Option<PartFault>
+        ensures { result ≡ self.now.fault }
+    {
+        self.done.fault()
+    }
+
     /// How many frames the step took.
     pub fn frames(&self) -> u32
         ensures { result ≡ self.now.frames }
