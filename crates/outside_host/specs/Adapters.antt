@@ -58,4 +58,6 @@ host_outside m = record {
   read_faults = m.read_faults;
   write_faults = m.write_faults;
   absences = m.absences;
+  openings = None;
+  failed_writes = None;
 }

@@ -4,7 +4,7 @@ ghost use Rattle.std.specs.Fs.{asks_append, asks_create, asks_create_new, asks_t
 ghost use Rattle.std.specs.IoError.{error_kind};
 ghost use Rattle.std.specs.Prelude.{◌≡◌, ◌≢◌, ◌↔◌, ◌≤◌, None, true, false, [], length, IfOk, OnOk, OnErr, IsErrOf, IsTrue, IsFalse, IsSome, Some};
 ghost use Rattle.outside_io.specs.Causes.{Rose, sum_of_counts};
-ghost use Rattle.outside_io.specs.Files.{GoesOn, SameBut, IsFrontOf};
+ghost use Rattle.outside_io.specs.Files.{GoesOn, SameBut, IsFrontOf, failed_with, with_name};
 ghost use Rattle.outside_io.specs.Moves.{WhereTold};
 ghost use Rattle.outside_host.specs.Opened.{has_file, StayOpened};
 
@@ -267,6 +267,8 @@ impl<R: Files<File = File> + Eprint> Media for HostMedia<R> {
         ensures reads_stay { ¬ (IsErrOf result Refused.Failed) → (host_outside self.new).read_faults ≡ (host_outside self.old).read_faults }
         ensures absences_stay { ¬ (IsErrOf result Refused.Absent) → (host_outside self.new).absences ≡ (host_outside self.old).absences }
         ensures unfailed { IfOk result (λ src. src.faults ≡ 0) }
+        ensures asked { ¬ (IsErrOf result Refused.OutOfMemory) → (host_outside self.new).openings ≡ with_name name.now 1 (host_outside self.old).openings }
+        ensures failed_writes { (host_outside self.new).failed_writes ≡ (host_outside self.old).failed_writes }
         ensures write_faults { (host_outside self.new).write_faults ≡ (host_outside self.old).write_faults }
         ensures opened { IfOk result (λ src. IsTrue (has_file src.id (opened_of self.new))) }
         ensures stay { StayOpened (opened_of self.old) (opened_of self.new) }
@@ -297,6 +299,9 @@ impl<R: Files<File = File> + Eprint> Media for HostMedia<R> {
         ensures writes_stand { ¬ (IsErrOf result Refused.Failed) → (host_outside self.new).write_faults ≡ (host_outside self.old).write_faults }
         ensures absences_stay { ¬ (IsErrOf result Refused.Absent) → (host_outside self.new).absences ≡ (host_outside self.old).absences }
         ensures unfailed { IfOk result (λ snk. snk.faults ≡ 0) }
+        ensures asked { ¬ (IsErrOf result Refused.OutOfMemory) → (host_outside self.new).openings ≡ with_name name.now 1 (host_outside self.old).openings }
+        ensures failed_name { IsErrOf result Refused.Failed → (host_outside self.new).failed_writes ≡ with_name name.now 1 (host_outside self.old).failed_writes }
+        ensures none_failed { ¬ (IsErrOf result Refused.Failed) → (host_outside self.new).failed_writes ≡ (host_outside self.old).failed_writes }
         ensures read_faults { (host_outside self.new).read_faults ≡ (host_outside self.old).read_faults }
         ensures other { IfOk result (λ snk. has_file snk.id (opened_of self.old) ≡ false) }
         ensures opened { IfOk result (λ snk. IsTrue (has_file snk.id (opened_of self.new))) }
@@ -321,6 +326,8 @@ impl<R: Files<File = File> + Eprint> Media for HostMedia<R> {
         ensures files { (host_outside self.new).file ≡ (host_outside self.old).file }
         ensures absences { (host_outside self.new).absences ≡ (host_outside self.old).absences }
         ensures write_faults { (host_outside self.new).write_faults ≡ (host_outside self.old).write_faults }
+        ensures openings { (host_outside self.new).openings ≡ (host_outside self.old).openings }
+        ensures failed_writes { (host_outside self.new).failed_writes ≡ (host_outside self.old).failed_writes }
         ensures added { (host_outside self.new).read_faults ≡ sum_of_counts (host_outside self.old).read_faults src.faults }
         ensures stay { opened_of self.new ≡ opened_of self.old }
     {
@@ -339,6 +346,8 @@ impl<R: Files<File = File> + Eprint> Media for HostMedia<R> {
         ensures read_faults { (host_outside self.new).read_faults ≡ (host_outside self.old).read_faults }
         ensures added { sum_of_counts (host_outside self.old).write_faults snk.faults ≤ (host_outside self.new).write_faults }
         ensures closed { OnOk result ((host_outside self.new).write_faults ≡ sum_of_counts (host_outside self.old).write_faults snk.faults) }
+        ensures openings { (host_outside self.new).openings ≡ (host_outside self.old).openings }
+        ensures failed_names { (host_outside self.new).failed_writes ≡ with_name unnamed (failed_with snk.faults result) (host_outside self.old).failed_writes }
         ensures failed { OnErr result (Rose (sum_of_counts (host_outside self.old).write_faults snk.faults) (host_outside self.new).write_faults) }
         ensures stay { opened_of self.new ≡ opened_of self.old }
     {

@@ -5,4 +5,5 @@ pub mod Failures
 pub mod Filled
 pub mod Known
 pub mod Moved
+pub mod Names
 pub mod Fronts

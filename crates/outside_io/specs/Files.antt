@@ -1,5 +1,6 @@
 -- What a media tells, and what its calls do to it.
-use Rattle.std.specs.Prelude.{◌≡◌, ◌≢◌, ℕ, ◌≤◌, Bool, List, take, Option, Some, Result, Ok, Err}
+use Rattle.std.specs.Prelude.{◌≡◌, ◌≢◌, ℕ, ◌≤◌, Bool, List, ◌++◌, replicate, take, Option, Some, option_map, Result, Ok, Err}
+use Rattle.outside_io.specs.Causes.{sum_of_counts}
 
 pub record Outside : Type 0 where
   -- whether it tells its files
@@ -13,6 +14,23 @@ pub record Outside : Type 0 where
   pub read_faults : ℕ
   pub write_faults : ℕ
   pub absences : ℕ
+  -- the names that it was asked to open, the oldest first; None where it doesn't tell them
+  pub openings : Option (List (List ℕ))
+  -- the names of the openings, writes and closings of sinks that failed, the oldest first; None where it doesn't tell them
+  pub failed_writes : Option (List (List ℕ))
+
+-- these names, and then others, where they are told
+abbrev pub with_names : List (List ℕ) → Option (List (List ℕ)) → Option (List (List ℕ))
+with_names more = option_map (λ names. names ++ more)
+
+-- the same name so many times more
+abbrev pub with_name : List ℕ → ℕ → Option (List (List ℕ)) → Option (List (List ℕ))
+with_name name times = with_names (replicate times name)
+
+-- how many calls on a sink failed, once it is closed
+abbrev pub failed_with : {E : Type 0} → ℕ → Result (Unit {0}) E → ℕ
+failed_with faults (Ok done) = faults
+failed_with faults (Err failed) = sum_of_counts faults 1
 
 -- what stays the same over each call, and the counts, which never fall
 pub record GoesOn (old new : Outside) : Type 0 where

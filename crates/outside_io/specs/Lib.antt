@@ -8,5 +8,6 @@ pub mod Keeping
 pub mod Memory
 pub mod MemoryFiles
 pub mod Moves
+pub mod Named
 pub mod Stops
 pub mod Whole

@@ -6,6 +6,7 @@ use Rattle.outside_io.specs.Entries.{content}
 use Rattle.outside_io.specs.Fails.{end_of, ends_of, fails_of, refuses, next_fails, seen_more, due_of}
 use Rattle.outside_io.specs.Files.{Outside}
 use Rattle.outside_io.specs.Memory.{source_bytes, source_name, source_offset, source_ends, source_asked, source_faults, source_reads, source_seeks, sink_bytes, sink_name, sink_faults, sink_room, sink_writes}
+use Rattle.outside_io.specs.Named.{names}
 use Rattle.outside_io.specs.declared.fails.FailKind.TheVariants.{OpenSource, Read, Seek, OpenSink, AbsentSink, Write, Close}
 use Rattle.outside_io.specs.declared.media.Refused.{Refused}
 use Rattle.outside_io.specs.declared.media.Refused.TheVariants.{Absent, Failed, OutOfMemory}
@@ -33,6 +34,8 @@ memory_outside m = record {
   read_faults = m.read_faults;
   write_faults = m.write_faults;
   absences = m.absences;
+  openings = Some (names m.openings);
+  failed_writes = Some (names m.failed_writes);
 }
 
 -- the three counts of a media
@@ -76,8 +79,7 @@ SourceAnswers name old new (Err Absent) =
     (next_fails OpenSource name (memory_plans old) ≡ false) × (memory_file old name ≡ None)
     × HasCounts new (memory_outside old).read_faults (memory_outside old).write_faults (sum_of_counts (memory_outside old).absences 1)
 SourceAnswers name old new (Err OutOfMemory) =
-    (next_fails OpenSource name (memory_plans old) ≡ false)
-    × HasCounts new (memory_outside old).read_faults (memory_outside old).write_faults (memory_outside old).absences
+    HasCounts new (memory_outside old).read_faults (memory_outside old).write_faults (memory_outside old).absences
 
 pub record OpensSource (name : List ℕ) (old new : MemoryMedia) (result : Result MemorySource Refused) : Type 0 where
   pub answers : SourceAnswers name old new result
@@ -97,8 +99,7 @@ SinkAnswers name old new (Err Failed) =
     (next_fails AbsentSink name (memory_plans old) ≡ false) × (next_fails OpenSink name (seen_more AbsentSink name 1 (memory_plans old)) ≡ true)
     × HasCounts new (memory_outside old).read_faults (sum_of_counts (memory_outside old).write_faults 1) (memory_outside old).absences
 SinkAnswers name old new (Err OutOfMemory) =
-    (next_fails AbsentSink name (memory_plans old) ≡ false) × (next_fails OpenSink name (seen_more AbsentSink name 1 (memory_plans old)) ≡ false)
-    × HasCounts new (memory_outside old).read_faults (memory_outside old).write_faults (memory_outside old).absences
+    HasCounts new (memory_outside old).read_faults (memory_outside old).write_faults (memory_outside old).absences
 
 pub record OpensSink (name : List ℕ) (old new : MemoryMedia) (result : Result MemorySink Refused) : Type 0 where
   pub answers : SinkAnswers name old new result

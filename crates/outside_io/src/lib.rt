@@ -9,6 +9,7 @@ mod memory_media;
 mod memory_sink;
 mod memory_source;
 mod moving;
+mod named;
 mod plans;
 mod sink;
 mod source;

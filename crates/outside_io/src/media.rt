@@ -2,7 +2,7 @@
 
 ghost use Rattle.std.specs.Prelude.{◌≡◌, ℕ, ◌<◌, ◌≤◌, List, [], length, Option, Some, None, IfOk, OnOk, OnErr, IsErrOf, IsTrue, IsFalse, IsSome};
 ghost use Rattle.outside_io.specs.Causes.{HasCause, Rose, sum_of_counts};
-ghost use Rattle.outside_io.specs.Files.{Outside, GoesOn, SameBut, IsFrontOf};
+ghost use Rattle.outside_io.specs.Files.{Outside, GoesOn, SameBut, IsFrontOf, failed_with, with_name};
 ghost use Rattle.outside_io.specs.Moves.{WhereTold};
 
 use crate::{Failed, Sink, Source};
@@ -21,6 +21,7 @@ pub enum Refused {
 /// Named files, of which sources and sinks are opened. A media may tell its files: then each source tells its bytes,
 /// and only the closing of a sink changes a told file, namely that of its name. It may also tell the sink names that it
 /// may refuse, and for each name the offset from which on its sources give nothing; both stay the same over all its calls.
+/// It may tell the names that it was asked to open, and those of failed writes, each in the order of the calls.
 /// Counts never fall, and stay at their last value. A call raises only the count
 /// of its own answer, and what is opened has failed in no call yet.
 pub trait Media {
@@ -55,6 +56,8 @@ pub trait Media {
         ensures reads_stay { ¬ (IsErrOf result Refused.Failed) → (outside self.new).read_faults ≡ (outside self.old).read_faults }
         ensures absences_stay { ¬ (IsErrOf result Refused.Absent) → (outside self.new).absences ≡ (outside self.old).absences }
         ensures unfailed { IfOk result (λ src. Self.Src.faults src ≡ 0) }
+        ensures asked { ¬ (IsErrOf result Refused.OutOfMemory) → (outside self.new).openings ≡ with_name name.now 1 (outside self.old).openings }
+        ensures failed_writes { (outside self.new).failed_writes ≡ (outside self.old).failed_writes }
         ensures write_faults { (outside self.new).write_faults ≡ (outside self.old).write_faults };
 
     fn sink(&mut self, alloc: Global, name: &str) -> Result<Self::Snk, Refused>
@@ -69,6 +72,9 @@ pub trait Media {
         ensures writes_stand { ¬ (IsErrOf result Refused.Failed) → (outside self.new).write_faults ≡ (outside self.old).write_faults }
         ensures absences_stay { ¬ (IsErrOf result Refused.Absent) → (outside self.new).absences ≡ (outside self.old).absences }
         ensures unfailed { IfOk result (λ snk. Self.Snk.faults snk ≡ 0) }
+        ensures asked { ¬ (IsErrOf result Refused.OutOfMemory) → (outside self.new).openings ≡ with_name name.now 1 (outside self.old).openings }
+        ensures failed_name { IsErrOf result Refused.Failed → (outside self.new).failed_writes ≡ with_name name.now 1 (outside self.old).failed_writes }
+        ensures none_failed { ¬ (IsErrOf result Refused.Failed) → (outside self.new).failed_writes ≡ (outside self.old).failed_writes }
         ensures read_faults { (outside self.new).read_faults ≡ (outside self.old).read_faults };
 
     fn close_source(&mut self, src: Self::Src)
@@ -76,6 +82,8 @@ pub trait Media {
         ensures files { (outside self.new).file ≡ (outside self.old).file }
         ensures absences { (outside self.new).absences ≡ (outside self.old).absences }
         ensures write_faults { (outside self.new).write_faults ≡ (outside self.old).write_faults }
+        ensures openings { (outside self.new).openings ≡ (outside self.old).openings }
+        ensures failed_writes { (outside self.new).failed_writes ≡ (outside self.old).failed_writes }
         ensures added { (outside self.new).read_faults ≡ sum_of_counts (outside self.old).read_faults (Self.Src.faults src) };
 
     fn close_sink(&mut self, snk: Self::Snk) -> Result<(), Failed>
@@ -87,5 +95,7 @@ pub trait Media {
         ensures read_faults { (outside self.new).read_faults ≡ (outside self.old).read_faults }
         ensures added { sum_of_counts (outside self.old).write_faults (Self.Snk.faults snk) ≤ (outside self.new).write_faults }
         ensures closed { OnOk result ((outside self.new).write_faults ≡ sum_of_counts (outside self.old).write_faults (Self.Snk.faults snk)) }
+        ensures openings { (outside self.new).openings ≡ (outside self.old).openings }
+        ensures failed_names { (outside self.new).failed_writes ≡ with_name (Self.Snk.name snk) (failed_with (Self.Snk.faults snk) result) (outside self.old).failed_writes }
         ensures failed { OnErr result (Rose (sum_of_counts (outside self.old).write_faults (Self.Snk.faults snk)) (outside self.new).write_faults) };
 }

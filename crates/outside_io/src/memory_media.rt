@@ -2,11 +2,12 @@
 
 ghost use Rattle.std.specs.Prelude.{◌≡◌, ◌≤◌, ℕ, List, [], length, IfOk, OnOk, OnErr, IsErrOf, IsTrue, IsFalse, IsSome, MatchOption, None, Some};
 ghost use Rattle.outside_io.specs.Causes.{Rose, sum_of_counts};
-ghost use Rattle.outside_io.specs.Files.{GoesOn, SameBut, IsFrontOf};
+ghost use Rattle.outside_io.specs.Files.{GoesOn, SameBut, IsFrontOf, failed_with, with_name};
 ghost use Rattle.outside_io.specs.Moves.{WhereTold};
 
 use crate::entries::{Entry, find};
 use crate::fails::{Fail, FailKind};
+use crate::named::{self, Named};
 use crate::plans::Planned;
 use crate::{Failed, Media, MemorySink, MemorySource, OutOfMemory, Refused};
 use std::alloc::Global;
@@ -23,6 +24,8 @@ pub struct MemoryMedia {
     read_faults: u64,
     write_faults: u64,
     absences: u64,
+    openings: Option<Box<Named>>,
+    failed_writes: Option<Box<Named>>,
 }
 
 impl MemoryMedia {
@@ -61,6 +64,8 @@ impl MemoryMedia {
             read_faults: 0,
             write_faults: 0,
             absences: 0,
+            openings: None,
+            failed_writes: None,
         })
     }
 
@@ -109,10 +114,16 @@ impl Media for MemoryMedia {
         ensures reads_stay { ¬ (IsErrOf result Refused.Failed) → (memory_outside self.new).read_faults ≡ (memory_outside self.old).read_faults }
         ensures absences_stay { ¬ (IsErrOf result Refused.Absent) → (memory_outside self.new).absences ≡ (memory_outside self.old).absences }
         ensures unfailed { IfOk result (λ src. source_faults src ≡ 0) }
+        ensures asked { ¬ (IsErrOf result Refused.OutOfMemory) → (memory_outside self.new).openings ≡ with_name name.now 1 (memory_outside self.old).openings }
+        ensures failed_writes { (memory_outside self.new).failed_writes ≡ (memory_outside self.old).failed_writes }
         ensures write_faults { (memory_outside self.new).write_faults ≡ (memory_outside self.old).write_faults }
         ensures exactly { OpensSource name.now self.old self.new result }
     {
-        if Planned::call(&mut self.plans, FailKind::OpenSource, name) {
+        let fails = Planned::call(&mut self.plans, FailKind::OpenSource, name);
+        let Ok(()) = named::add(alloc, &mut self.openings, name) else {
+            return Err(Refused::OutOfMemory);
+        };
+        if fails {
             self.read_faults = self.read_faults.saturating_add(1);
             return Err(Refused::Failed);
         }
@@ -138,16 +149,25 @@ impl Media for MemoryMedia {
         ensures writes_stand { ¬ (IsErrOf result Refused.Failed) → (memory_outside self.new).write_faults ≡ (memory_outside self.old).write_faults }
         ensures absences_stay { ¬ (IsErrOf result Refused.Absent) → (memory_outside self.new).absences ≡ (memory_outside self.old).absences }
         ensures unfailed { IfOk result (λ snk. sink_faults snk ≡ 0) }
+        ensures asked { ¬ (IsErrOf result Refused.OutOfMemory) → (memory_outside self.new).openings ≡ with_name name.now 1 (memory_outside self.old).openings }
+        ensures failed_name { IsErrOf result Refused.Failed → (memory_outside self.new).failed_writes ≡ with_name name.now 1 (memory_outside self.old).failed_writes }
+        ensures none_failed { ¬ (IsErrOf result Refused.Failed) → (memory_outside self.new).failed_writes ≡ (memory_outside self.old).failed_writes }
         ensures read_faults { (memory_outside self.new).read_faults ≡ (memory_outside self.old).read_faults }
         ensures exactly { OpensSink name.now self.old self.new result }
     {
         let absent = Planned::call(&mut self.plans, FailKind::AbsentSink, name);
         let fails = Planned::call(&mut self.plans, FailKind::OpenSink, name);
+        let Ok(()) = named::add(alloc, &mut self.openings, name) else {
+            return Err(Refused::OutOfMemory);
+        };
         if absent {
             self.absences = self.absences.saturating_add(1);
             return Err(Refused::Absent);
         }
         if fails {
+            let Ok(()) = named::add(alloc, &mut self.failed_writes, name) else {
+                return Err(Refused::OutOfMemory);
+            };
             self.write_faults = self.write_faults.saturating_add(1);
             return Err(Refused::Failed);
         }
@@ -162,6 +182,8 @@ impl Media for MemoryMedia {
         ensures files { (memory_outside self.new).file ≡ (memory_outside self.old).file }
         ensures absences { (memory_outside self.new).absences ≡ (memory_outside self.old).absences }
         ensures write_faults { (memory_outside self.new).write_faults ≡ (memory_outside self.old).write_faults }
+        ensures openings { (memory_outside self.new).openings ≡ (memory_outside self.old).openings }
+        ensures failed_writes { (memory_outside self.new).failed_writes ≡ (memory_outside self.old).failed_writes }
         ensures added { (memory_outside self.new).read_faults ≡ sum_of_counts (memory_outside self.old).read_faults (source_faults src) }
         ensures exactly { ClosesSource src self.old self.new }
     {
@@ -180,6 +202,8 @@ impl Media for MemoryMedia {
         ensures read_faults { (memory_outside self.new).read_faults ≡ (memory_outside self.old).read_faults }
         ensures added { sum_of_counts (memory_outside self.old).write_faults (sink_faults snk) ≤ (memory_outside self.new).write_faults }
         ensures closed { OnOk result ((memory_outside self.new).write_faults ≡ sum_of_counts (memory_outside self.old).write_faults (sink_faults snk)) }
+        ensures openings { (memory_outside self.new).openings ≡ (memory_outside self.old).openings }
+        ensures failed_names { (memory_outside self.new).failed_writes ≡ with_name (sink_name snk) (failed_with (sink_faults snk) result) (memory_outside self.old).failed_writes }
         ensures failed { OnErr result (Rose (sum_of_counts (memory_outside self.old).write_faults (sink_faults snk)) (memory_outside self.new).write_faults) }
         ensures exactly { ClosesSink snk self.old self.new result }
     {
@@ -187,16 +211,24 @@ impl Media for MemoryMedia {
         let name = snk.name.as_str();
         Planned::count(&mut self.plans, FailKind::Write, name, snk.writes.made);
         let fails = Planned::call(&mut self.plans, FailKind::Close, name);
+        let mut failed = snk.faults;
         let mut entry = snk.spare;
         entry.name = snk.name;
         entry.bytes = snk.bytes;
         if fails {
             self.write_faults = self.write_faults.saturating_add(1);
+            failed = failed.saturating_add(1);
             let half = entry.bytes.len() / 2;
             entry.bytes.truncate(half);
         }
         entry.older = self.entries.take();
         self.entries = Some(entry);
+        named::put(
+            &mut self.failed_writes,
+            snk.spare_named,
+            snk.same_name,
+            failed,
+        );
         if fails { Err(Failed) } else { Ok(()) }
     }
 }

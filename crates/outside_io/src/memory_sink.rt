@@ -2,27 +2,31 @@
 
 ghost use Rattle.std.specs.Io.{WritesAtMost};
 ghost use Rattle.std.specs.Io.KnownBytes.{append_known};
-ghost use Rattle.std.specs.Prelude.{◌≡◌, ◌≤◌, ◌<◌, length, take, OnErr, [], vec_len, vec_capacity, Some, IfOk};
+ghost use Rattle.std.specs.Prelude.{◌≡◌, ◌≤◌, ◌<◌, length, take, string_bytes, OnErr, [], vec_len, vec_capacity, Some, IfOk};
 ghost use Rattle.outside_io.specs.Causes.{HasCause};
 
 use crate::calls::Calls;
 use crate::entries::Entry;
 use crate::fails::FailKind;
+use crate::named::{self, Named};
 use crate::plans::Planned;
 use crate::{Failed, OutOfMemory, Sink};
 use std::alloc::Global;
 
-/// A sink into memory. Its room and the place of its file are reserved, so writing and closing take no memory.
+/// A sink into memory. Its room, the place of its file and that of its failures are reserved, so writing and closing take no memory.
 #[derive(Drop)]
 pub struct MemorySink {
     pub(crate) name: String,
     pub(crate) bytes: Vec<u8>,
     pub(crate) spare: Box<Entry>,
+    pub(crate) same_name: String,
+    pub(crate) spare_named: Box<Named>,
     room: usize,
     pub(crate) writes: Calls,
     pub(crate) faults: u64,
     ghost reserved: { room ≤ vec_capacity bytes },
     ghost within: { vec_len bytes ≤ room },
+    ghost named: { string_bytes same_name ≡ string_bytes name },
 }
 
 impl MemorySink {
@@ -64,6 +68,8 @@ impl MemorySink {
             name: String::from_str(alloc, name)?,
             bytes: Vec::with_capacity(alloc, room)?,
             spare: Box::new(alloc, entry)?,
+            same_name: String::from_str(alloc, name)?,
+            spare_named: named::spare(alloc)?,
             room,
             writes: Calls::new(Planned::due(alloc, plans, FailKind::Write, name)?),
             faults: 0,

@@ -1,7 +1,7 @@
 //! Whole files are read and written by name, and why a file was not read whole.
 
-ghost use Rattle.std.specs.Prelude.{◌≡◌, ◌≢◌, ◌≤◌, length, Err, IfOk, IfErr, OnOk, OnErr, IsSome, IsFalse, IsTrue, Some};
-ghost use Rattle.outside_io.specs.Files.{GoesOn, SameBut};
+ghost use Rattle.std.specs.Prelude.{◌≡◌, ◌≢◌, ◌≤◌, ℕ, length, Err, IfOk, IfErr, OnOk, OnErr, IsSome, IsFalse, IsTrue, Some};
+ghost use Rattle.outside_io.specs.Files.{GoesOn, SameBut, with_name};
 ghost use Rattle.outside_io.specs.Keeping.{KeepsSource};
 ghost use Rattle.outside_io.specs.Moves.{WhereTold};
 ghost use Rattle.outside_io.specs.Whole.{HasRestReason, HasReadReason, HasWriteReason, IsKeptOrFrontOf, WasOpened};
@@ -39,6 +39,7 @@ pub fn read_whole<M: Media>(
     ensures read_stays { result ≢ Err Unread.Failed → (M.outside media.new).read_faults ≡ (M.outside media.old).read_faults }
     ensures absences_stay { result ≢ Err Unread.Absent → (M.outside media.new).absences ≡ (M.outside media.old).absences }
     ensures write_faults { (M.outside media.new).write_faults ≡ (M.outside media.old).write_faults }
+    ensures asked { result ≢ Err Unread.OutOfMemory → (M.outside media.new).openings ≡ with_name name.now 1 (M.outside media.old).openings }
 {
     let mut source = match media.source(alloc, name) {
         Ok(source) => source,
@@ -93,6 +94,9 @@ pub fn write_whole<M: Media>(
     ensures write_stays { result ≢ Err Refused.Failed → (M.outside media.new).write_faults ≡ (M.outside media.old).write_faults }
     ensures absences_stay { result ≢ Err Refused.Absent → (M.outside media.new).absences ≡ (M.outside media.old).absences }
     ensures read_faults { (M.outside media.new).read_faults ≡ (M.outside media.old).read_faults }
+    ensures asked { result ≢ Err Refused.OutOfMemory → (M.outside media.new).openings ≡ with_name name.now 1 (M.outside media.old).openings }
+    ensures failed_names { IsTrue (M.outside media.old).tells →
+        (times : ℕ) × ((M.outside media.new).failed_writes ≡ with_name name.now times (M.outside media.old).failed_writes) }
 {
     let mut sink = media.sink(alloc, name)?;
     let written = write_all(&mut sink, bytes);
