@@ -41,7 +41,7 @@ pub output-told : (old mid later new : Outside) (refused : Refused) (fault : Fau
 output-told old mid later new refused fault is before stands after = λ none. after ∙ (stands (λ e. none Files.Output (is ∙ ap fault_of_output e)) ∙ before)
 
 -- a play that wasn't done whole
-pub undone-told : (script : Script) (log : List ℕ) (old new : Outside) (fault : Fault) → IsUndone script log old new fault → IsAbsenceTold old new fault
+pub undone-told : {workers : ℕ} (script : Script) (log : List ℕ) (old new : Outside) (fault : Fault) → IsUndone workers script log old new fault → IsAbsenceTold old new fault
 undone-told script log old new fault (inl (inl U)) = λ _. (U.still).absences
 undone-told script log old new fault (inl (inr (planned, is, inl U))) = let M = U.met in (M.refused).unabsent
 undone-told script log old new fault (inl (inr (planned, is, inr (inl U)))) = λ _. (U.still).absences

@@ -2,7 +2,9 @@
 use Rattle.std.proofs.Common.{◌≡◌, inl, inr, ℕ, List, Option, Some, None, Result, Err, IsTrue, IsFalse, Bool, true, false, sym, ◌∙◌}
 use Rattle.outside_io.specs.Causes.{Rose}
 use Rattle.omx_types.specs.declared.fault.Fault.{Fault}
+use Rattle.omx_types.specs.declared.fault.Fault.TheVariants as Faults
 use Rattle.omx_types.specs.declared.fault.Status.{Status}
+use Rattle.omx_types.specs.declared.fault.Status.TheVariants as Statuses
 use Rattle.omx_types.specs.declared.fault.WavFault.{WavFault}
 use Rattle.wav_form.specs.declared.heads.WavHead.{WavHead}
 use Rattle.wav_form.specs.Reading.{Reads}
@@ -32,3 +34,8 @@ err-same a b one p q = let e = sym p ∙ q in cc
 pub true-false : (b : Bool) → IsTrue b → IsFalse b → ⊥
 true-false true is not = cc
 true-false false is not = cc
+
+-- where a fault was to be told the status is none of a good end
+pub not-done : (fault : Fault) (text : List ℕ) (old new : Option (List ℕ)) (before now : ℕ) (status : Status) → IsPrinted (Statuses.Fault fault) text old new before now status → status ≡ Statuses.Ok → ⊥
+not-done fault text old new before now status (inl (same, _, _)) e = let s : Statuses.Ok ≡ Statuses.Fault fault = sym e ∙ same in absurd cc
+not-done fault text old new before now status (inr (same, _, _)) e = let s : Statuses.Ok ≡ Statuses.Fault Faults.WriteFault = sym e ∙ same in absurd cc

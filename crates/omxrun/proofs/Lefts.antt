@@ -102,7 +102,7 @@ module _ (names : OwnNames) (name log : List ℕ) (old mid new : Outside) (scrip
   own : (planned plan : PlanValue) → IsPlanOfScript script planned → plan.parts ≡ planned.parts → HaveOwnFiles name log plan.parts
   own planned plan is e = subst (HaveOwnFiles name log) (sym e) (names name log W.text script planned W.is is)
 
-  unwritten-left : (planned : PlanValue) → IsPlanOfScript script planned → IsTrue old.tells → IsUnwritten planned mid new fault → IsBegun name log old new
+  unwritten-left : {workers : ℕ} (planned : PlanValue) → IsPlanOfScript script planned → IsTrue old.tells → IsUnwritten planned mid new fault → IsBegun workers name log old new
   unwritten-left planned is tells U =
       let f = U.files_are ((W.goes_on).tells ∙ tells) in
       let E = U.left ((W.goes_on).tells ∙ tells) in
@@ -120,7 +120,7 @@ module _ (names : OwnNames) (name log : List ℕ) (old mid new : Outside) (scrip
         others = λ other n none. at-file other old mid new W.files (E.others other (λ place b v. none place v));
       }
 
-  broken-left : IsTrue old.tells → IsBroken script mid new fault → IsBegun name log old new
+  broken-left : {workers : ℕ} → IsTrue old.tells → IsBroken script mid new fault → IsBegun workers name log old new
   broken-left tells B =
       let G = B.opened in
       let A = B.left ((W.goes_on).tells ∙ tells) in
@@ -135,7 +135,7 @@ module _ (names : OwnNames) (name log : List ℕ) (old mid new : Outside) (scrip
         others = λ other n none. at-file other old mid new W.files (A.others other none);
       }
 
-  unlogged-left : IsTrue old.tells → IsUnlogged script log mid new fault → IsBegun name log old new
+  unlogged-left : {workers : ℕ} → IsTrue old.tells → IsUnlogged workers script log mid new fault → IsBegun workers name log old new
   unlogged-left tells U =
       let G = U.opened in
       let L = U.left ((W.goes_on).tells ∙ tells) in
@@ -149,7 +149,7 @@ module _ (names : OwnNames) (name log : List ℕ) (old mid new : Outside) (scrip
         others = λ other n none. at-file other old mid new W.files (L.others other n none);
       }
 
-  pub undone-left : IsTrue old.tells → IsUndone script log mid new fault → IsLeft name log old new
+  pub undone-left : {workers : ℕ} → IsTrue old.tells → IsUndone workers script log mid new fault → IsLeft workers name log old new
   undone-left tells (inl (inl U)) = inl ((U.still).files ∙ W.files)
   undone-left tells (inl (inr (planned, is, inl U))) = let M = U.met in inl ((M.refused).files ∙ W.files)
   undone-left tells (inl (inr (planned, is, inr (inl U)))) = inl ((U.still).files ∙ W.files)
@@ -157,7 +157,7 @@ module _ (names : OwnNames) (name log : List ℕ) (old mid new : Outside) (scrip
   undone-left tells (inr (inl B)) = inr (broken-left tells B)
   undone-left tells (inr (inr U)) = inr (unlogged-left tells U)
 
-  pub undone-early : IsUndone script log mid new fault → IsEarly fault → new.file ≡ old.file
+  pub undone-early : {workers : ℕ} → IsUndone workers script log mid new fault → IsEarly fault → new.file ≡ old.file
   undone-early (inl (inl U)) early = (U.still).files ∙ W.files
   undone-early (inl (inr (planned, is, inl U))) early = let M = U.met in (M.refused).files ∙ W.files
   undone-early (inl (inr (planned, is, inr (inl U)))) early = (U.still).files ∙ W.files
@@ -168,7 +168,7 @@ module _ (names : OwnNames) (name log : List ℕ) (old mid new : Outside) (scrip
   same-log : new.file ≡ mid.file → new.file log ≡ old.file log
   same-log same = ap (λ (f : List ℕ → Option (List ℕ)). f log) (same ∙ W.files)
 
-  pub undone-log : IsTrue old.tells → IsUndone script log mid new fault → fault ≢ Faults.WriteFault → new.file log ≡ old.file log
+  pub undone-log : {workers : ℕ} → IsTrue old.tells → IsUndone workers script log mid new fault → fault ≢ Faults.WriteFault → new.file log ≡ old.file log
   undone-log tells (inl (inl U)) n = same-log (U.still).files
   undone-log tells (inl (inr (planned, is, inl U))) n = let M = U.met in same-log (M.refused).files
   undone-log tells (inl (inr (planned, is, inr (inl U)))) n = same-log (U.still).files

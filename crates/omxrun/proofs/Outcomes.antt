@@ -42,7 +42,7 @@ unread-play name log old new Unreads.OutOfMemory reason there stands writes = un
 
 -- ---- a script that was read
 
-done-before : (script : Script) (log : List ℕ) (old mid new : Outside) (summary : List SinkLine) → GoesOn old mid → mid.file ≡ old.file → IsDone script log mid new summary → IsDone script log old new summary
+done-before : {workers : ℕ} (script : Script) (log : List ℕ) (old mid new : Outside) (summary : List SinkLine) → GoesOn old mid → mid.file ≡ old.file → IsDone workers script log mid new summary → IsDone workers script log old new summary
 done-before script log old mid new summary on same D = record {
   plan = D.plan;
   files = D.files;
@@ -63,7 +63,7 @@ done-before script log old mid new summary on same D = record {
 }
 
 -- the script was read, and this came of it
-pub read-outcome : OwnNames → (name log : List ℕ) (old mid new : Outside) (script : Script) (outcome : Result (List ℕ) Fault) → WasRead name log old mid script → IsPlayCourse script log mid new outcome → IsPlayOutcome name log old new outcome
+pub read-outcome : {workers : ℕ} → OwnNames → (name log : List ℕ) (old mid new : Outside) (script : Script) (outcome : Result (List ℕ) Fault) → WasRead name log old mid script → IsPlayCourse workers script log mid new outcome → IsPlayOutcome workers name log old new outcome
 read-outcome names name log old mid new script (Ok printed) W C = record {
   played = record {
     script = script;
@@ -89,7 +89,7 @@ read-outcome names name log old mid new script (Err fault) W C = record {
   unlogged = λ tells. undone-log names name log old mid new script W fault tells C.undone;
 }
 
-pub unread-outcome : (name log : List ℕ) (old new : Outside) (fault : Fault) → new.file ≡ old.file → HasPlayReason name log old new fault → IsAbsenceTold old new fault → IsPlayOutcome name log old new (Err fault)
+pub unread-outcome : {workers : ℕ} (name log : List ℕ) (old new : Outside) (fault : Fault) → new.file ≡ old.file → HasPlayReason name log old new fault → IsAbsenceTold old new fault → IsPlayOutcome workers name log old new (Err fault)
 unread-outcome name log old new fault same reason told = record {
   played = tt;
   unabsent = told;
@@ -117,7 +117,7 @@ plan-few : (script : Script) (plan : PlanValue) → IsPlanOfScript script plan �
 plan-few (Play units parts links) plan is = is.valid.most
 plan-few (Trace units lines) plan is = absurd is
 
-pub sinks-few : (script : Script) (log : List ℕ) (old new : Outside) (summary : List SinkLine) → IsDone script log old new summary → length summary ≤ 32
+pub sinks-few : {workers : ℕ} (script : Script) (log : List ℕ) (old new : Outside) (summary : List SinkLine) → IsDone workers script log old new summary → length summary ≤ 32
 sinks-few script log old new summary D =
     let O = D.opened in
     let few = plan-few script O.planned O.is_plan in

@@ -314,7 +314,7 @@ module _ (reads_once : ReadsOnce) (plans_once : PlansOnce) (script : Script) (lo
   planned-last planned is (inr (inr U)) =
       sink-last (U.part).line U.name mid new fault calm (L.sinks U.place U.name (writer-in script planned U.plan U.place U.name is (U.fitted).parts (U.part, U.there, U.writes))) U.why
 
-  undone-last : IsUndone script log mid new fault → fault ≡ Faults.OutOfMemory
+  undone-last : {workers : ℕ} → IsUndone workers script log mid new fault → fault ≡ Faults.OutOfMemory
   undone-last (inl (inl U)) = unplanned-last plans_once script mid new fault L.plan L.is_plan U
   undone-last (inl (inr (planned, is, U))) = planned-last planned is U
   undone-last (inr (inl B)) =
@@ -346,14 +346,14 @@ calm-of old new before now N = record { read = N.read; write = N.write }
 play-status : (outcome : Result (List ℕ) Fault) (told told_new : Option (List ℕ)) (before now : ℕ) (status : Status) → (Rose before now → ⊥) → IsPlayReported outcome told told_new before now status → status ≡ status_of outcome
 play-status outcome told told_new before now status print printed = printed-status (status_of outcome) (play_text outcome) told told_new before now status print printed
 
-can-last : PlayOnce → ReadsOnce → PlansOnce → (name log : List ℕ) (old new : Outside) (before now : ℕ) (fault : Fault) → IsFaultless old new before now → CanPlay name log old → IsUnplayed name log old new fault → fault ≡ Faults.OutOfMemory
+can-last : {workers : ℕ} → PlayOnce → ReadsOnce → PlansOnce → (name log : List ℕ) (old new : Outside) (before now : ℕ) (fault : Fault) → IsFaultless old new before now → CanPlay name log old → IsUnplayed workers name log old new fault → fault ≡ Faults.OutOfMemory
 can-last play_once reads_once plans_once name log old new before now fault none can (inl (same, reason)) =
     script-last play_once name log old new can.script fault (calm-of old new before now none) can.asked reason
 can-last play_once reads_once plans_once name log old new before now fault none can (inr (script, mid, W, U)) =
     let e = read-same play_once name log old mid script can.script W can.asked in
     undone-last reads_once plans_once script log mid new fault (calm-later name log old mid new script W before now none) (can-let name log old mid new script W can e) U
 
-pub complete : PlayOnce → ReadsOnce → PlansOnce → (name log : List ℕ) (old new : Outside) (before now : ℕ) (told told_new : Option (List ℕ)) (outcome : Result (List ℕ) Fault) (status : Status) → IsPlayOutcome name log old new outcome → IsPlayReported outcome told told_new before now status → IsFaultless old new before now → CanPlay name log old → IsOrMemory status Statuses.Ok
+pub complete : {workers : ℕ} → PlayOnce → ReadsOnce → PlansOnce → (name log : List ℕ) (old new : Outside) (before now : ℕ) (told told_new : Option (List ℕ)) (outcome : Result (List ℕ) Fault) (status : Status) → IsPlayOutcome workers name log old new outcome → IsPlayReported outcome told told_new before now status → IsFaultless old new before now → CanPlay name log old → IsOrMemory status Statuses.Ok
 complete play_once reads_once plans_once name log old new before now told told_new (Ok printed) status is told_is none can = inl (play-status (Ok printed) told told_new before now status none.print told_is)
 complete play_once reads_once plans_once name log old new before now told told_new (Err fault) status is told_is none can =
     inr (play-status (Err fault) told told_new before now status none.print told_is ∙ ap Statuses.Fault (can-last play_once reads_once plans_once name log old new before now fault none can is.unplayed))
@@ -369,7 +369,7 @@ none-read : PlayOnce → (name log text : List ℕ) (old : Outside) (line : ℕ)
 none-read once name log text old line why script tells held is has =
     no-play once name log has.bytes script (fault_at line why) (subst (λ (t : List ℕ). IsPlayScript name log t script) (same-text text has.bytes (old.file name) (held tells) (has.given).held) is) has.refused
 
-pub unread : PlayOnce → (name log : List ℕ) (old new : Outside) (before now : ℕ) (told told_new : Option (List ℕ)) (line : ℕ) (why : ScriptWhy) (outcome : Result (List ℕ) Fault) (status : Status) → IsPlayOutcome name log old new outcome → IsPlayReported outcome told told_new before now status → IsFaultless old new before now → IsUnread name log old line why → IsOrMemory status (Statuses.Fault (Faults.Script line why))
+pub unread : {workers : ℕ} → PlayOnce → (name log : List ℕ) (old new : Outside) (before now : ℕ) (told told_new : Option (List ℕ)) (line : ℕ) (why : ScriptWhy) (outcome : Result (List ℕ) Fault) (status : Status) → IsPlayOutcome workers name log old new outcome → IsPlayReported outcome told told_new before now status → IsFaultless old new before now → IsUnread name log old line why → IsOrMemory status (Statuses.Fault (Faults.Script line why))
 unread once name log old new before now told told_new line why (Ok printed) status is told_is none has =
     let P = is.played in
     absurd (none-read once name log P.text old line why P.script has.tells P.held P.is has)
@@ -406,7 +406,7 @@ is-memory (Plans.Small line) = inr (λ e. cc)
 is-memory (Plans.Differ line) = inr (λ e. cc)
 
 module _ (plans_once : PlansOnce) (faults_once : FaultsOnce) (script : Script) (log : List ℕ) (mid new : Outside) (fault : Fault) (why : PlanFault) (n : why ≢ Plans.OutOfMemory) (is : IsFaultOfScript script why) where
-  shape-told : IsUndone script log mid new fault → (fault ≡ fault_of_plan why) ⊎ (fault ≡ Faults.OutOfMemory)
+  shape-told : {workers : ℕ} → IsUndone workers script log mid new fault → (fault ≡ fault_of_plan why) ⊎ (fault ≡ Faults.OutOfMemory)
   shape-told (inl (inl U)) = elim (is-memory U.why) [
     | inl m ↦ inr (U.told ∙ ap fault_of_plan m)
     | inr other ↦ inl (U.told ∙ ap fault_of_plan (shape-same faults_once script U.why why U.is is other n))
@@ -415,7 +415,7 @@ module _ (plans_once : PlansOnce) (faults_once : FaultsOnce) (script : Script) (
   shape-told (inr (inl B)) = let O = B.opened in absurd (no-plan plans_once script O.planned why n is O.is_plan)
   shape-told (inr (inr U)) = let O = U.opened in absurd (no-plan plans_once script O.planned why n is O.is_plan)
 
-pub unplanned : PlayOnce → PlansOnce → FaultsOnce → (name log : List ℕ) (old new : Outside) (before now : ℕ) (told told_new : Option (List ℕ)) (why : PlanFault) (outcome : Result (List ℕ) Fault) (status : Status) → IsPlayOutcome name log old new outcome → IsPlayReported outcome told told_new before now status → IsFaultless old new before now → HasNoPlan name log old why → IsOrMemory status (Statuses.Fault (fault_of_plan why))
+pub unplanned : {workers : ℕ} → PlayOnce → PlansOnce → FaultsOnce → (name log : List ℕ) (old new : Outside) (before now : ℕ) (told told_new : Option (List ℕ)) (why : PlanFault) (outcome : Result (List ℕ) Fault) (status : Status) → IsPlayOutcome workers name log old new outcome → IsPlayReported outcome told told_new before now status → IsFaultless old new before now → HasNoPlan name log old why → IsOrMemory status (Statuses.Fault (fault_of_plan why))
 unplanned once plans_once faults_once name log old new before now told told_new why (Ok printed) status is told_is none has =
     let P = is.played in
     let O = (P.done.1).opened in
@@ -474,7 +474,7 @@ module _ (reads_once : ReadsOnce) (plans_once : PlansOnce) (never : FitsNot) (mi
   opened-none : (fitted : PlanValue) (files : PlayFiles) (samples : List (List ℕ)) → WasOpened script mid fitted files → AreFiles mid fitted.parts files samples → ⊥
   opened-none fitted files samples O A = fitted-none O.planned fitted files samples O.is_plan O.fitted O.fit A
 
-  misfit-told : IsUndone script log mid new fault → (fault ≡ fault_of_plan why) ⊎ (fault ≡ Faults.OutOfMemory)
+  misfit-told : {workers : ℕ} → IsUndone workers script log mid new fault → (fault ≡ fault_of_plan why) ⊎ (fault ≡ Faults.OutOfMemory)
   misfit-told (inl (inl U)) = inr (unplanned-last plans_once script mid new fault plan is_plan U)
   misfit-told (inl (inr (planned, is, inl U))) =
       let M = U.met in
@@ -486,7 +486,7 @@ module _ (reads_once : ReadsOnce) (plans_once : PlansOnce) (never : FitsNot) (mi
   misfit-told (inr (inl B)) = let left = B.left tells in absurd (opened-none B.plan B.files left.samples B.opened left.files_are)
   misfit-told (inr (inr U)) = let left = U.left tells in absurd (opened-none U.plan U.files left.samples U.opened left.files_are)
 
-pub misfitted : PlayOnce → ReadsOnce → PlansOnce → FitsNot → MisfitsOnce → (name log : List ℕ) (old new : Outside) (before now : ℕ) (told told_new : Option (List ℕ)) (why : PlanFault) (outcome : Result (List ℕ) Fault) (status : Status) → IsPlayOutcome name log old new outcome → IsPlayReported outcome told told_new before now status → IsFaultless old new before now → IsMisfitted name log old why → IsOrMemory status (Statuses.Fault (fault_of_plan why))
+pub misfitted : {workers : ℕ} → PlayOnce → ReadsOnce → PlansOnce → FitsNot → MisfitsOnce → (name log : List ℕ) (old new : Outside) (before now : ℕ) (told told_new : Option (List ℕ)) (why : PlanFault) (outcome : Result (List ℕ) Fault) (status : Status) → IsPlayOutcome workers name log old new outcome → IsPlayReported outcome told told_new before now status → IsFaultless old new before now → IsMisfitted name log old why → IsOrMemory status (Statuses.Fault (fault_of_plan why))
 misfitted once reads_once plans_once never misfits_once name log old new before now told told_new why (Ok printed) status is told_is none has =
     let P = is.played in
     let D = P.done.1 in
@@ -547,7 +547,7 @@ module _ (reads_once : ReadsOnce) (plans_once : PlansOnce) (script : Script) (lo
         ]
       ]
 
-  bad-told : IsUndone script log mid new fault → (fault ≡ Faults.BadMedia (Files.Line part.line) bad) ⊎ (fault ≡ Faults.OutOfMemory)
+  bad-told : {workers : ℕ} → IsUndone workers script log mid new fault → (fault ≡ Faults.BadMedia (Files.Line part.line) bad) ⊎ (fault ≡ Faults.OutOfMemory)
   bad-told (inl (inl U)) = inr (unplanned-last plans_once script mid new fault plan is_plan U)
   bad-told (inl (inr (planned, is, inl U))) = source-told planned is U
   bad-told (inl (inr (planned, is, inr (inl U)))) =
@@ -557,8 +557,8 @@ module _ (reads_once : ReadsOnce) (plans_once : PlansOnce) (script : Script) (lo
   bad-told (inr (inl B)) = let O = B.opened in let left = B.left tells in absurd (files-none (B.plan).parts B.files left.samples ((O.fitted).parts ∙ planned-parts script O.planned O.is_plan) left.files_are)
   bad-told (inr (inr U)) = let O = U.opened in let left = U.left tells in absurd (files-none (U.plan).parts U.files left.samples ((O.fitted).parts ∙ planned-parts script O.planned O.is_plan) left.files_are)
 
-pub faulty : PlayOnce → ReadsOnce → PlansOnce → (name log : List ℕ) (old new : Outside) (before now : ℕ) (told told_new : Option (List ℕ)) (line : ℕ) (bad : WavFault) (outcome : Result (List ℕ) Fault) (status : Status) → IsPlayOutcome name log old new outcome → IsPlayReported outcome told told_new before now status → IsFaultless old new before now → IsFaulty name log old line bad → IsOrMemory status (Statuses.Fault (Faults.BadMedia (Files.Line line) bad))
-faulty once reads_once plans_once name log old new before now told told_new line bad (Ok printed) status is told_is none has =
+pub faulty : {workers : ℕ} → PlayOnce → ReadsOnce → PlansOnce → (name log : List ℕ) (old new : Outside) (before now : ℕ) (told told_new : Option (List ℕ)) (line : ℕ) (bad : WavFault) (outcome : Result (List ℕ) Fault) (status : Status) → IsPlayOutcome workers name log old new outcome → IsPlayReported outcome told told_new before now status → IsFaultless old new before now → IsFaulty name log old line bad → IsOrMemory status (Statuses.Fault (Faults.BadMedia (Files.Line line) bad))
+faulty {workers} once reads_once plans_once name log old new before now told told_new line bad (Ok printed) status is told_is none has =
     let P = is.played in
     let D = P.done.1 in
     let O = D.opened in
@@ -567,7 +567,7 @@ faulty once reads_once plans_once name log old new before now told told_new line
     let parts = (O.fitted).parts ∙ (planned-parts P.script O.planned O.is_plan ∙ ap parts_of e) in
     let R = (H.files_are).sources has.place has.file (subst (λ (ps : List PartLine). IsReader ps has.place has.file) (sym parts) (has.part, has.there, has.reads_file)) in
     absurd (sound-head old has.file has.bytes bad reads_once has.given has.reads R.bytes R.head R.held R.reads)
-faulty once reads_once plans_once name log old new before now told told_new line bad (Err fault) status is told_is none has =
+faulty {workers} once reads_once plans_once name log old new before now told told_new line bad (Err fault) status is told_is none has =
     elim is.unplayed [
       | inl (same, reason) ↦ fault-status fault _ told told_new before now status none.print told_is (inr (script-last once name log old new has.script fault (calm-of old new before now none) has.asked reason))
       | inr (script, mid, W, undone) ↦
@@ -577,5 +577,5 @@ faulty once reads_once plans_once name log old new before now told told_new line
           (bad-told reads_once plans_once has.script log mid new fault (calm-later name log old mid new script W before now none) ((W.goes_on).tells ∙ asked.tells) has.plan has.is_plan has.place has.part has.file has.bytes bad
           has.there has.reads_file (given-later name log old mid new script W has.file has.bytes has.given) has.reads
           (λ other file b r. sound-later name log old mid new script W file (has.before other file b r))
-          (subst (λ (s : Script). IsUndone s log mid new fault) e undone)))
+          (subst (λ (s : Script). IsUndone workers s log mid new fault) e undone)))
     ]

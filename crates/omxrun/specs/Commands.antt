@@ -5,6 +5,7 @@ use Rattle.omx_types.specs.declared.fault.Fault.{Fault}
 use Rattle.omx_types.specs.declared.fault.Fault.TheVariants.{NotBuilt}
 use Rattle.omx_types.specs.declared.fault.Unbuilt.TheVariants as Unbuilts
 use Rattle.omx_types.specs.declared.fault.Status.{Status}
+use Rattle.omxrun.specs.Asked.{IsBuilt}
 use Rattle.omxrun.specs.Clocked.{IsClockOutcome}
 use Rattle.omxrun.specs.Making.{IsMakeOutcome}
 use Rattle.rtp_parts.specs.Answers.{StoppedPacking}
@@ -22,7 +23,7 @@ HasRun (to_trace script) old new told told_new before now status =
     (outcome : Result (Unit {0}) Fault) × (text : List ℕ) × IsTraceOutcome script old new outcome text
     × IsPrinted (status_of outcome) text told told_new before now status
 HasRun (to_play script workers log) old new told told_new before now status =
-    (workers ≡ 0 → (outcome : Result (List ℕ) Fault) × IsPlayOutcome script log old new outcome × IsPlayReported outcome told told_new before now status)
+    (IsBuilt workers → (outcome : Result (List ℕ) Fault) × IsPlayOutcome workers script log old new outcome × IsPlayReported outcome told told_new before now status)
     × (1 ≤ workers → (new ≡ old) × IsReported (Err (NotBuilt Unbuilts.Words)) told told_new before now status)
 HasRun (to_make seed frames folder) old new told told_new before now status =
     (outcome : Result Done Fault) × IsMakeOutcome seed frames folder old new outcome × IsReported outcome told told_new before now status

@@ -1,10 +1,12 @@
 //! The command `play`: a script is read and played, and the summary of its sinks or a fault is printed.
 
-ghost use Rattle.std.specs.Prelude.{◌≡◌, ◌≤◌, ℕ, List, Result, IfOk, IfErr};
+ghost use Rattle.std.specs.Prelude.{◌≡◌, ◌≤◌, ℕ, List, Result, IfOk, IfErr, IsTrue};
 ghost use Rattle.outside_io.specs.Files.{GoesOn};
 ghost use Rattle.script_lang.specs.PlayScripts.{IsPlayScript};
+ghost use Rattle.play_course.specs.Outcomes.{HoldsTold};
+ghost use Rattle.play_course.specs.Settling.{parts_of};
 ghost use Rattle.omxrun.specs.Absences.{AreAbsencesTold};
-ghost use Rattle.omxrun.specs.Plays.{HasPlayReason, IsPlayCourse, IsPlayOutcome, IsPlayReported, WasRead};
+ghost use Rattle.omxrun.specs.Plays.{HasPlayReason, IsPlayCourse, IsPlayIn, IsPlayOutcome, IsPlayReported, WasRead};
 
 use crate::print::{print, report};
 use crate::script::SCRIPT_BYTES;
@@ -28,8 +30,10 @@ pub fn play_file<M: Media, P: Player<M::Src, M::Snk>, O: Sink>(
 ) -> Status
     ensures goes_on { GoesOn (M.outside media.old) (M.outside media.new) }
     ensures later { O.faults out.old ≤ O.faults out.new }
-    ensures played { (outcome : Result (List ℕ) Fault) × IsPlayOutcome name.now log.now (M.outside media.old) (M.outside media.new) outcome
+    ensures played { (outcome : Result (List ℕ) Fault) × IsPlayOutcome (P.workers player.old) name.now log.now (M.outside media.old) (M.outside media.new) outcome
         × IsPlayReported outcome (O.told out.old) (O.told out.new) (O.faults out.old) (O.faults out.new) result }
+    ensures told { result ≡ Status.Ok → IsTrue (M.outside media.old).tells → (script : Script) × IsPlayIn name.now log.now (M.outside media.old) script
+        × HoldsTold (P.tells player.old player.new (parts_of script)) log.now (M.outside media.new) }
 {
     law_of_names();
     match script_of(alloc, media, name, log) {
@@ -68,8 +72,10 @@ fn play_read<M: Media, P: Player<M::Src, M::Snk>, O: Sink>(
     requires { (name : List ℕ) × (text : List ℕ) × IsPlayScript name log.now text script.now }
     ensures goes_on { GoesOn (M.outside media.old) (M.outside media.new) }
     ensures later { O.faults out.old ≤ O.faults out.new }
-    ensures played { (outcome : Result (List ℕ) Fault) × IsPlayCourse script.now log.now (M.outside media.old) (M.outside media.new) outcome
+    ensures played { (outcome : Result (List ℕ) Fault) × IsPlayCourse (P.workers player.old) script.now log.now (M.outside media.old) (M.outside media.new) outcome
         × IsPlayReported outcome (O.told out.old) (O.told out.new) (O.faults out.old) (O.faults out.new) result }
+    ensures told { result ≡ Status.Ok → IsTrue (M.outside media.old).tells
+        → HoldsTold (P.tells player.old player.new (parts_of script.now)) log.now (M.outside media.new) }
 {
     match play_script(alloc, script, media, log, player) {
         Ok(summary) => {

@@ -8,7 +8,7 @@ ghost use Rattle.omx_types.specs.declared.fault.WavFault.{WavFault};
 ghost use Rattle.omxrun.specs.declared.done.Done.{Done};
 ghost use Rattle.play_forms.specs.declared.plan_fault.PlanFault.{PlanFault};
 ghost use Rattle.play_files.specs.Faults.{fault_of_plan};
-ghost use Rattle.omxrun.specs.Asked.{IsUnbuilt, IsUntraced, CanTrace, IsUnread, HasNoPlan, IsMisfitted, IsFaulty, CanPlay, CanMake, IsFaultless, IsOrMemory};
+ghost use Rattle.omxrun.specs.Asked.{AskToPlay, IsBuilt, IsUnbuilt, IsUntraced, CanTrace, IsUnread, HasNoPlan, IsMisfitted, IsFaulty, CanPlay, CanMake, IsFaultless, IsOrMemory};
 ghost use Rattle.omxrun.specs.Clocked.{IsClockOutcome, CanClock, IsUnclocked};
 ghost use Rattle.omxrun.specs.Commands.{HasRun};
 ghost use Rattle.omxrun.specs.Making.{IsMakeOutcome};
@@ -30,7 +30,6 @@ use crate::trace::trace_file;
 use crate::words::{Command, command_of};
 use omx_types::{Fault, Status, Unbuilt};
 use outside_io::{Media, Sink};
-use play_course::Player;
 use play_forms::law_of_plans;
 use play_run::OneThread;
 use script_lang::{one_outcome, one_play};
@@ -41,7 +40,7 @@ use wav_form::one_answer;
 
 /// Does what the words ask for, and prints what it came to: its text, or the line of its fault.
 pub fn run_words<R: Threads + Wait + Sync, M: Media, O: Sink>(
-    _rt: &R,
+    rt: &R,
     alloc: Global,
     words: &[String],
     media: &mut M,
@@ -61,9 +60,9 @@ pub fn run_words<R: Threads + Wait + Sync, M: Media, O: Sink>(
         × IsTraceOutcome script (M.outside media.old) (M.outside media.new) outcome text
         × IsPrinted (status_of outcome) text (O.told out.old) (O.told out.new) (O.faults out.old) (O.faults out.new) result }
 
-    // A play: what it came to, and what is printed of that.
-    ensures play { (script log : List ℕ) → AreWordsOf (map string_bytes words.now) (to_play script 0 log) → (outcome : Result (List ℕ) Fault)
-        × IsPlayOutcome script log (M.outside media.old) (M.outside media.new) outcome
+    // A play, by whichever number of workers that is built: what it came to, and what is printed of that.
+    ensures play { (script : List ℕ) (workers : ℕ) (log : List ℕ) → AskToPlay (map string_bytes words.now) script workers log → (outcome : Result (List ℕ) Fault)
+        × IsPlayOutcome workers script log (M.outside media.old) (M.outside media.new) outcome
         × IsPlayReported outcome (O.told out.old) (O.told out.new) (O.faults out.old) (O.faults out.new) result }
 
     // Files that are made: what it came to, and what is printed of that.
@@ -91,19 +90,19 @@ pub fn run_words<R: Threads + Wait + Sync, M: Media, O: Sink>(
     ensures complete_trace { (script : List ℕ) → AreWordsOf (map string_bytes words.now) (to_trace script) →
         IsFaultless (M.outside media.old) (M.outside media.new) (O.faults out.old) (O.faults out.new) →
         CanTrace script (M.outside media.old) → IsOrMemory result Status.Ok }
-    ensures unread { (script log : List ℕ) (line : ℕ) (why : ScriptWhy) → AreWordsOf (map string_bytes words.now) (to_play script 0 log) →
+    ensures unread { (script : List ℕ) (workers : ℕ) (log : List ℕ) (line : ℕ) (why : ScriptWhy) → AskToPlay (map string_bytes words.now) script workers log →
         IsFaultless (M.outside media.old) (M.outside media.new) (O.faults out.old) (O.faults out.new) →
         IsUnread script log (M.outside media.old) line why → IsOrMemory result (Status.Fault (Fault.Script line why)) }
-    ensures unplanned { (script log : List ℕ) (why : PlanFault) → AreWordsOf (map string_bytes words.now) (to_play script 0 log) →
+    ensures unplanned { (script : List ℕ) (workers : ℕ) (log : List ℕ) (why : PlanFault) → AskToPlay (map string_bytes words.now) script workers log →
         IsFaultless (M.outside media.old) (M.outside media.new) (O.faults out.old) (O.faults out.new) →
         HasNoPlan script log (M.outside media.old) why → IsOrMemory result (Status.Fault (fault_of_plan why)) }
-    ensures faulty { (script log : List ℕ) (line : ℕ) (fault : WavFault) → AreWordsOf (map string_bytes words.now) (to_play script 0 log) →
+    ensures faulty { (script : List ℕ) (workers : ℕ) (log : List ℕ) (line : ℕ) (fault : WavFault) → AskToPlay (map string_bytes words.now) script workers log →
         IsFaultless (M.outside media.old) (M.outside media.new) (O.faults out.old) (O.faults out.new) →
         IsFaulty script log (M.outside media.old) line fault → IsOrMemory result (Status.Fault (Fault.BadMedia (Line line) fault)) }
-    ensures misfitted { (script log : List ℕ) (why : PlanFault) → AreWordsOf (map string_bytes words.now) (to_play script 0 log) →
+    ensures misfitted { (script : List ℕ) (workers : ℕ) (log : List ℕ) (why : PlanFault) → AskToPlay (map string_bytes words.now) script workers log →
         IsFaultless (M.outside media.old) (M.outside media.new) (O.faults out.old) (O.faults out.new) →
         IsMisfitted script log (M.outside media.old) why → IsOrMemory result (Status.Fault (fault_of_plan why)) }
-    ensures complete { (script log : List ℕ) → AreWordsOf (map string_bytes words.now) (to_play script 0 log) →
+    ensures complete { (script : List ℕ) (workers : ℕ) (log : List ℕ) → AskToPlay (map string_bytes words.now) script workers log →
         IsFaultless (M.outside media.old) (M.outside media.new) (O.faults out.old) (O.faults out.new) →
         CanPlay script log (M.outside media.old) → IsOrMemory result Status.Ok }
     ensures complete_make { (seed frames : ℕ) (folder : List ℕ) → AreWordsOf (map string_bytes words.now) (to_make seed frames folder) →
@@ -127,17 +126,17 @@ pub fn run_words<R: Threads + Wait + Sync, M: Media, O: Sink>(
     one_play();
     law_of_plans();
     match command_of(words) {
-        Some(command) => run_command(alloc, command, media, &mut OneThread, out),
+        Some(command) => run_command(rt, alloc, command, media, out),
         None => report(Err(Fault::Usage), out),
     }
 }
 
 /// Does what a command asks for, and prints what it came to.
-fn run_command<M: Media, P: Player<M::Src, M::Snk>, O: Sink>(
+fn run_command<R: Threads + Wait + Sync, M: Media, O: Sink>(
+    rt: &R,
     alloc: Global,
     command: Command<'_>,
     media: &mut M,
-    player: &mut P,
     out: &mut O,
 ) -> Status
     requires { IsAllowed (asked_by command) }
@@ -151,7 +150,7 @@ fn run_command<M: Media, P: Player<M::Src, M::Snk>, O: Sink>(
             script,
             workers,
             log,
-        } => play_with(alloc, media, script, workers, log, player, out),
+        } => play_with(rt, alloc, media, script, workers, log, out),
         Command::Make {
             seed,
             frames,
@@ -166,25 +165,25 @@ fn run_command<M: Media, P: Player<M::Src, M::Snk>, O: Sink>(
     }
 }
 
-/// A play without workers is the one that is built.
-fn play_with<M: Media, P: Player<M::Src, M::Snk>, O: Sink>(
+/// Plays by the player of that number of workers. That of none is built.
+fn play_with<R: Threads + Wait + Sync, M: Media, O: Sink>(
+    _rt: &R,
     alloc: Global,
     media: &mut M,
     script: &str,
     workers: u64,
     log: &str,
-    player: &mut P,
     out: &mut O,
 ) -> Status
     ensures goes_on { GoesOn (M.outside media.old) (M.outside media.new) }
     ensures later { O.faults out.old ≤ O.faults out.new }
-    ensures played { workers ≡ 0 → (outcome : Result (List ℕ) Fault) × IsPlayOutcome script.now log.now (M.outside media.old) (M.outside media.new) outcome
+    ensures played { IsBuilt workers → (outcome : Result (List ℕ) Fault) × IsPlayOutcome workers script.now log.now (M.outside media.old) (M.outside media.new) outcome
         × IsPlayReported outcome (O.told out.old) (O.told out.new) (O.faults out.old) (O.faults out.new) result }
     ensures unbuilt { 1 ≤ workers → (M.outside media.new ≡ M.outside media.old)
         × IsReported (Err (Fault.NotBuilt Unbuilt.Words)) (O.told out.old) (O.told out.new) (O.faults out.old) (O.faults out.new) result }
 {
     if workers == 0 {
-        play_file(alloc, media, script, log, player, out)
+        play_file(alloc, media, script, log, &mut OneThread, out)
     } else {
         let words = Fault::NotBuilt {
             what: Unbuilt::Words,

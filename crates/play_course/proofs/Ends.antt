@@ -1,5 +1,5 @@
 -- What a play comes to, whose files were open.
-use Rattle.std.proofs.Common.{◌≡◌, ◌≢◌, ℕ, ◌<◌, ◌≤◌, ◌^◌, List, Bool, true, false, [], length, slice_get, Option, Some, Result, Ok, Err, IsTrue, IsFalse, OnOk, IfOk, IfErr, inl, inr, refl, sym, ◌∙◌, ap, subst, arith}
+use Rattle.std.proofs.Common.{◌≡◌, ◌≢◌, ℕ, ◌<◌, ◌≤◌, ◌^◌, List, Bool, true, false, [], length, slice_get, Option, Some, Result, Ok, Err, IsTrue, IsFalse, OnOk, IfOk, IfErr, inl, inr, refl, sym, ◌∙◌, ap, subst, arith, ◌∷◌, ◌++◌, ◌-◌}
 use Rattle.std.specs.Prelude.{◌⊎◌}
 use Rattle.std.specs.List.{sum_by}
 use Rattle.std.proofs.lemmas.List.{take_all}
@@ -9,7 +9,7 @@ use Rattle.omx_types.specs.declared.fault.PartFault.{PartFault}
 use Rattle.omx_types.specs.declared.fault.PartFault.TheVariants as kinds
 use Rattle.omx_types.specs.declared.fault.Which.TheVariants.{Line, Log}
 use Rattle.outside_io.specs.Causes.{Rose, sum_of_counts}
-use Rattle.outside_io.specs.Files.{AbsencesStand, CountsStand, GoesOn, IsFrontOf as FrontOf, Outside, SameBut, TellsAbsence}
+use Rattle.outside_io.specs.Files.{AbsencesStand, CountsStand, GoesOn, IsFrontOf as FrontOf, Outside, SameBut, TellsAbsence, with_name}
 use Rattle.outside_io.specs.Whole.{HasWriteReason, IsKeptOrFrontOf, IsShort}
 use Rattle.outside_io.specs.declared.media.Refused.{Refused}
 use Rattle.outside_io.specs.declared.media.Refused.TheVariants as Refusals
@@ -32,6 +32,8 @@ use Rattle.play_files.specs.Closing.{AreClosed, failed_reads, failed_writes}
 use Rattle.play_files.specs.Names.{HaveOwnFiles}
 use Rattle.play_files.specs.Opening.{HasHead, IsSourceOf, IsStill}
 use Rattle.play_files.specs.Seen.{FileSeen, SourceSeen, files_seen}
+use Rattle.play_files.specs.Asked.{HasAskedFor, read_names, written_names}
+use Rattle.play_files.proofs.Asking.{asked_then}
 use Rattle.play_files.specs.Whole.{AreAllOpen, play_files}
 use Rattle.play_files.proofs.Closings.{then}
 use Rattle.play_files.proofs.Fronts.{later}
@@ -40,7 +42,7 @@ use Rattle.play_course.specs.declared.player.RunFault.{RunFault}
 use Rattle.play_course.specs.declared.player.RunFault.TheVariants as Runs
 use Rattle.play_course.specs.declared.settling.Ran.{Ran}
 use Rattle.play_course.specs.Courses.{HasEnded, HasRun}
-use Rattle.play_course.specs.Outcomes.{HasLeft, HasNotBegun, IsBroken, IsClosedWhole, IsDone, IsLogFault, IsRunFault, IsUnlogged, IsWantOfMemory, ShowsOutside}
+use Rattle.play_course.specs.Outcomes.{HasLeft, HasNotBegun, HoldsTold, IsBroken, IsClosedWhole, IsDone, IsLogFault, IsRunFault, IsUnlogged, IsWantOfMemory, ShowsOutside}
 use Rattle.play_course.specs.Failing.{ShowsAt}
 use Rattle.play_course.specs.Players.{AreFilesOf, IsPlayedWhole}
 use Rattle.play_course.specs.Running.{HasTaken, IsRunCause}
@@ -153,7 +155,7 @@ calm parts false false (Err fault) closed it e = absurd cc
 
 module _ {F : Type 0} (seen : F → FileSeen) (script : Script) (name log : List ℕ) (old mid new : Outside) (plan : PlanValue) (entries : List (Option F)) (O : AreAllOpen seen script old mid plan entries) (own : HaveOwnFiles name log plan.parts) where
   -- each sink took a front of its text
-  fronts : (after : List (Option FileSeen)) (ran : Result Ran RunFault) → HasRun plan (files_seen seen entries) after ran → (samples : List (List ℕ)) → AreSamples plan (play_files seen O.heads entries) samples
+  fronts : {workers : ℕ} {Tells : List PartLine → List ℕ → Type 0} (after : List (Option FileSeen)) (ran : Result Ran RunFault) → HasRun workers Tells plan (files_seen seen entries) after ran → (samples : List (List ℕ)) → AreSamples plan (play_files seen O.heads entries) samples
       → (place : ℕ) (its : List ℕ) → IsWriter plan.parts place its → (bytes : List ℕ) × HasTaken (files_seen seen entries) after place bytes × IsFront (sink_text plan samples place) bytes
   fronts after (Ok it) R samples S place its w =
       let W = R.whole (play_files seen O.heads entries) O.ready (are_files_of seen script name log old mid plan entries O own) in
@@ -181,9 +183,12 @@ module _ {F : Type 0} (seen : F → FileSeen) (script : Script) (name log : List
         behind_head old p.2.0 head source at I G.started,
       )
 
-  module _ (result : Result Ran Fault) (H : HasEnded plan plan.parts (files_seen seen entries) mid new result) where
+  module _ {workers : ℕ} {Tells : List PartLine → List ℕ → Type 0} (result : Result Ran Fault) (H : HasEnded workers Tells plan plan.parts (files_seen seen entries) mid new result) where
     pub goes : GoesOn old new
     goes = then old mid new (O.still).goes_on (H.closes).goes_on
+
+    asked_new : HasAskedFor old new (read_names plan.parts ++ written_names plan.parts)
+    asked_new = (H.closes).openings ∙ O.asked
 
     pub absent_none : AbsencesStand old new
     absent_none = (H.closes).absences ∙ (O.still).absences
@@ -229,7 +234,7 @@ module _ {F : Type 0} (seen : F → FileSeen) (script : Script) (name log : List
     unread same = calm_reads seen entries old plan.parts plan.frames (length plan.parts) O.heads O.opened mid new H.closed (subst (λ (files : List (Option FileSeen)). AreClosed files mid new H.closed) same H.closes)
 
     -- the world that the run left
-    world : (ran : Result Ran RunFault) → HasRun plan (files_seen seen entries) H.after ran → (fault : Fault) → settled plan.parts ran H.closed H.reads H.writes ≡ Err fault → HasNotBegun plan old new fault ⊎ HasLeft plan (play_files seen O.heads entries) old new fault
+    world : (ran : Result Ran RunFault) → HasRun workers Tells plan (files_seen seen entries) H.after ran → (fault : Fault) → settled plan.parts ran H.closed H.reads H.writes ≡ Err fault → HasNotBegun plan old new fault ⊎ HasLeft plan (play_files seen O.heads entries) old new fault
     world (Ok it) R fault e =
         let W = R.whole (play_files seen O.heads entries) O.ready (are_files_of seen script name log old mid plan entries O own) in
         let L = W.log in
@@ -264,6 +269,7 @@ module _ {F : Type 0} (seen : F → FileSeen) (script : Script) (name log : List
       files = play_files seen O.heads entries;
       absences = absent_none;
       opened = was_opened seen script name log old mid plan entries O own;
+      asked = asked_new;
       why = why plan.parts (files_seen seen entries) H.after old mid new H.few O.still (λ place at size c. short_told place at size H.after c) H.reads H.writes H.ran H.closed H.read H.unread H.wrote H.unwritten H.closes (H.has_run).cause fault (sym H.is ∙ e);
       world = world H.ran H.has_run fault (sym H.is ∙ e);
       left = λ tells.
@@ -288,10 +294,14 @@ module _ {F : Type 0} (seen : F → FileSeen) (script : Script) (name log : List
       pub told : it.summary ≡ planned_summary plan
       told = subst (λ (r : Result Ran RunFault). IfOk r (λ x. x.summary ≡ planned_summary plan)) calm_is.ran_is (H.has_run).told
 
-      whole : IsPlayedWhole plan (play_files seen O.heads entries) (files_seen seen entries) H.after it.text
+      whole : IsPlayedWhole workers plan (play_files seen O.heads entries) (files_seen seen entries) H.after it.text
       whole =
-          let all = subst (λ (r : Result Ran RunFault). IfOk r (λ x. (given : PlayFiles) → IsReady plan given → AreFilesOf plan given (files_seen seen entries) → IsPlayedWhole plan given (files_seen seen entries) H.after x.text)) calm_is.ran_is (H.has_run).whole in
+          let all = subst (λ (r : Result Ran RunFault). IfOk r (λ x. (given : PlayFiles) → IsReady plan given → AreFilesOf plan given (files_seen seen entries) → IsPlayedWhole workers plan given (files_seen seen entries) H.after x.text)) calm_is.ran_is (H.has_run).whole in
           all (play_files seen O.heads entries) O.ready (are_files_of seen script name log old mid plan entries O own)
+
+      -- what is told of its log
+      pub gates_tell : (final : Outside) → final.file log ≡ Some it.text → HoldsTold (Tells plan.parts) log final
+      gates_tell final holding = (it.text, holding, subst (λ (r : Result Ran RunFault). IfOk r (λ x. Tells plan.parts x.text)) calm_is.ran_is (H.has_run).gates)
 
       -- the sinks' names hold what was written
       holds : IsTrue old.tells → (place : ℕ) (its bytes : List ℕ) → IsWriter plan.parts place its → HasTaken (files_seen seen entries) H.after place bytes → new.file its ≡ Some bytes
@@ -305,7 +315,7 @@ module _ {F : Type 0} (seen : F → FileSeen) (script : Script) (name log : List
         keeps : (place : ℕ) (its : List ℕ) → IsWriter plan.parts place its → final.file its ≡ new.file its
         keeps place its w = same its (own.log_other place its w)
 
-        pub log_of : IsLogOf plan (play_files seen O.heads entries) final it.text
+        pub log_of : IsLogOf workers plan (play_files seen O.heads entries) final it.text
         log_of = record {
           ending = whole.ending;
           log = whole.log;
@@ -330,7 +340,7 @@ module _ {F : Type 0} (seen : F → FileSeen) (script : Script) (name log : List
         pub log_before : new.file log ≡ old.file log
         log_before = others seen script name log old mid plan entries O own H.after (H.has_run).same tells new H.closed H.closes log no_log
 
-      pub done : (final : Outside) → (IsTrue old.tells → SameBut log new final) → (IsTrue old.tells → final.file log ≡ Some it.text) → IsDone script log old final it.summary
+      pub done : (final : Outside) → (IsTrue old.tells → SameBut log new final) → (IsTrue old.tells → final.file log ≡ Some it.text) → IsDone workers script log old final it.summary
       done final same held_log = record {
         plan = plan;
         files = play_files seen O.heads entries;
@@ -350,18 +360,24 @@ module _ {F : Type 0} (seen : F → FileSeen) (script : Script) (name log : List
             });
       }
 
+      -- no call on a sink failed
+      named_none : old.write_faults < 2 ^ 64 - 1 → new.failed_writes ≡ old.failed_writes
+      named_none few = (H.closes).named (let same = (O.still).writes in omega (arith, few, same)) (H.unwritten calm_is.unwritten) ∙ (O.still).failed
+
       closed_whole : IsClosedWhole log plan (play_files seen O.heads entries) old new
       closed_whole = record {
         goes_on = goes;
         stand = stand;
         absences = absent_none;
+        asked = asked_new;
         sinks = λ tells samples A. hold_sinks new tells (λ other n. refl) samples A;
         kept = λ tells. log_before new tells (λ other n. refl);
       }
 
       pub unlogged : (final : Outside) (fault : Fault) → GoesOn new final → IsLogFault log new final fault → (fault ≢ Faults.WriteFault → CountsStand old final) → (IsTrue old.tells → SameBut log new final) → (IsTrue old.tells → IsKeptOrFrontOf (new.file log) (final.file log) it.text) → IsLogFault log old final fault
-          → (fault ≢ Faults.WriteFault → final.file log ≡ new.file log) → TellsAbsence Faults.Absent old final fault → IsUnlogged script log old final fault
-      unlogged final fault on since calm same front why kept unabsent = record {
+          → (fault ≢ Faults.WriteFault → final.file log ≡ new.file log) → TellsAbsence Faults.Absent old final fault
+          → (fault ≢ Faults.OutOfMemory → final.openings ≡ with_name log 1 new.openings) → (IsTrue old.tells → (times : ℕ) × (final.failed_writes ≡ with_name log times new.failed_writes)) → IsUnlogged workers script log old final fault
+      unlogged final fault on since calm same front why kept unabsent asked failed = record {
         plan = plan;
         files = play_files seen O.heads entries;
         unabsent = unabsent;
@@ -371,6 +387,8 @@ module _ {F : Type 0} (seen : F → FileSeen) (script : Script) (name log : List
         whole = closed_whole;
         goes_on = on;
         since = since;
+        asked = λ n. asked_then old new final (read_names plan.parts ++ written_names plan.parts) (log ∷ []) asked_new (asked n);
+        failed = λ tells few. (let f = failed tells in (f.0, f.1 ∙ ap (with_name log f.0) (named_none few)));
         others = same;
         stand = calm;
         left = λ tells.

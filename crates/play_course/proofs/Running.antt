@@ -68,11 +68,12 @@ nothing_taken None = refl
 nothing_taken (Some bytes) = ap Some (sym (append-nil bytes))
 
 -- memory was wanted before the run
-pub not_begun : (plan : PlanValue) (entries : List (Option FileSeen)) → CanPlay plan entries → HasRun plan entries entries (Err Faults.OutOfMemory)
+pub not_begun : {workers : ℕ} {Tells : List PartLine → List ℕ → Type 0} (plan : PlanValue) (entries : List (Option FileSeen)) → CanPlay plan entries → HasRun workers Tells plan entries entries (Err Faults.OutOfMemory)
 not_begun plan entries C = record {
   same = same_files entries;
   told = tt;
   whole = tt;
+  gates = tt;
   failed = λ given R A samples S place name w.
       (let s = sink_there plan given entries place name C.many A w in
       ([], record { first = s.0; last = s.0; planned = s.1; count = s.1; was = s.2; is = s.2; took = nothing_taken (s.0).told }, (0, omega arith, refl)));

@@ -1,5 +1,5 @@
 -- How a play whose files are open came to its end.
-use Rattle.std.specs.Prelude.{◌≡◌, ◌<◌, ◌^◌, Bool, List, Option, Result, IfErr, IfOk, OnErr, IsTrue, IsFalse}
+use Rattle.std.specs.Prelude.{◌≡◌, ℕ, ◌<◌, ◌^◌, Bool, List, Option, Result, IfErr, IfOk, OnErr, IsTrue, IsFalse}
 use Rattle.omx_types.specs.declared.fault.Fault.{Fault}
 use Rattle.outside_io.specs.Files.{Outside}
 use Rattle.outside_io.specs.declared.source.Failed.{Failed}
@@ -16,23 +16,24 @@ use Rattle.play_course.specs.Running.{AreSameFiles, IsRunCause}
 use Rattle.play_course.specs.Settling.{settled}
 use Rattle.play_course.specs.Sums.{planned_summary}
 
--- A run of the plan with these files came to that.
-pub record HasRun (plan : PlanValue) (before after : List (Option FileSeen)) (ran : Result Ran RunFault) : Type 0 where
+-- A run of the plan with these files by so many workers came to that. `Tells` is what the player tells of a log, by its components.
+pub record HasRun (workers : ℕ) (Tells : List PartLine → List ℕ → Type 0) (plan : PlanValue) (before after : List (Option FileSeen)) (ran : Result Ran RunFault) : Type 0 where
   pub same : AreSameFiles before after
   pub told : IfOk ran (λ it. it.summary ≡ planned_summary plan)
-  pub whole : IfOk ran (λ it. (given : PlayFiles) → IsReady plan given → AreFilesOf plan given before → IsPlayedWhole plan given before after it.text)
+  pub whole : IfOk ran (λ it. (given : PlayFiles) → IsReady plan given → AreFilesOf plan given before → IsPlayedWhole workers plan given before after it.text)
+  pub gates : IfOk ran (λ it. Tells plan.parts it.text)
   pub failed : OnErr ran ((given : PlayFiles) → IsReady plan given → AreFilesOf plan given before → IsFailed plan given before after)
   pub cause : IfErr ran (IsRunCause before after)
   pub left : IfErr ran (λ fault. (given : PlayFiles) → IsReady plan given → AreFilesOf plan given before → LeavesBehind plan given before after fault)
 
 -- Then its files were closed, and the counts were looked at.
-pub record HasEnded (plan : PlanValue) (parts : List PartLine) (before : List (Option FileSeen)) (old new : Outside) (result : Result Ran Fault) : Type 0 where
+pub record HasEnded (workers : ℕ) (Tells : List PartLine → List ℕ → Type 0) (plan : PlanValue) (parts : List PartLine) (before : List (Option FileSeen)) (old new : Outside) (result : Result Ran Fault) : Type 0 where
   pub after : List (Option FileSeen)
   pub ran : Result Ran RunFault
   pub closed : Result (Unit {0}) Failed
   pub reads : Bool
   pub writes : Bool
-  pub has_run : HasRun plan before after ran
+  pub has_run : HasRun workers Tells plan before after ran
   pub closes : AreClosed after old new closed
   pub few : old.read_faults < 2 ^ 64
   pub read : IsTrue reads → old.read_faults < new.read_faults

@@ -1,12 +1,12 @@
 -- What a play comes to.
-use Rattle.std.specs.Prelude.{◌≡◌, ◌≢◌, ◌⊎◌, ℕ, ◌≤◌, List, [], slice_get, Some, IsTrue}
+use Rattle.std.specs.Prelude.{◌≡◌, ◌≢◌, ◌⊎◌, ℕ, ◌-◌, ◌^◌, ◌<◌, ◌≤◌, List, [], ◌∷◌, ◌++◌, slice_get, Some, IsTrue}
 use Rattle.omx_types.specs.declared.fault.Fault.{Fault}
 use Rattle.omx_types.specs.declared.fault.Fault.TheVariants as Faults
 use Rattle.omx_types.specs.declared.fault.PartFault.{PartFault}
 use Rattle.omx_types.specs.declared.fault.PartFault.TheVariants as parts
 use Rattle.omx_types.specs.declared.fault.Which.TheVariants.{Line, Log}
 use Rattle.outside_io.specs.Causes.{Rose}
-use Rattle.outside_io.specs.Files.{AbsencesStand, CountsStand, GoesOn, IsFrontOf, Outside, SameBut, TellsAbsence}
+use Rattle.outside_io.specs.Files.{AbsencesStand, CountsStand, GoesOn, IsFrontOf, Outside, SameBut, TellsAbsence, with_name}
 use Rattle.outside_io.specs.Whole.{IsShort}
 use Rattle.wav_form.specs.declared.heads.WavHead.{WavHead}
 use Rattle.il_machine.specs.Acts.{Act, Reply}
@@ -20,6 +20,7 @@ use Rattle.play_result_laws.specs.Files.{AreFiles, IsNoSink, IsWriter, read_by}
 use Rattle.play_result_laws.specs.Results.{HoldSinks, IsLogOf, OthersAreKept}
 use Rattle.play_result_laws.specs.Summaries.{SinkLine, summary_of}
 use Rattle.play_result_laws.specs.Worlds.{HasWritten}
+use Rattle.play_files.specs.Asked.{HasAskedFor, read_names, written_names}
 use Rattle.play_files.specs.Left.{IsUnopened}
 use Rattle.play_files.specs.Opening.{HasHead}
 use Rattle.play_course.specs.Failing.{HasFailure, IsShortBehind, LeadsTo}
@@ -36,22 +37,26 @@ pub record WasOpened (script : Script) (old : Outside) (plan : PlanValue) (files
 -- ---- done whole
 
 -- the sinks' names hold their texts, and the log's name its log; of each sink the summary tells the frames and how long its text is
-pub record AreHeld (log : List ℕ) (plan : PlanValue) (files : PlayFiles) (old new : Outside) (summary : List SinkLine) : Type 0 where
+pub record AreHeld (workers : ℕ) (log : List ℕ) (plan : PlanValue) (files : PlayFiles) (old new : Outside) (summary : List SinkLine) : Type 0 where
   pub samples : List (List ℕ)
   pub files_are : AreFiles old plan.parts files samples
   pub told : summary ≡ summary_of plan samples
   pub sinks : HoldSinks plan samples new
   pub text : List ℕ
   pub logged : new.file log ≡ Some text
-  pub log_is : IsLogOf plan files new text
+  pub log_is : IsLogOf workers plan files new text
   pub others : OthersAreKept plan.parts log old new
 
-pub record IsDone (script : Script) (log : List ℕ) (old new : Outside) (summary : List SinkLine) : Type 0 where
+pub record IsDone (workers : ℕ) (script : Script) (log : List ℕ) (old new : Outside) (summary : List SinkLine) : Type 0 where
   pub plan : PlanValue
   pub files : PlayFiles
   pub opened : WasOpened script old plan files
   pub told : summary ≡ planned_summary plan
-  pub held : IsTrue old.tells → AreHeld log plan files old new summary
+  pub held : IsTrue old.tells → AreHeld workers log plan files old new summary
+
+-- the log's name holds a text, of which that is told
+abbrev pub HoldsTold : (List ℕ → Type 0) → (log : List ℕ) → Outside → Type 0
+HoldsTold Told log new = (text : List ℕ) × (new.file log ≡ Some text) × Told text
 
 -- ---- a fault in the run
 
@@ -116,11 +121,13 @@ pub record HasNotBegun (plan : PlanValue) (old new : Outside) (fault : Fault) : 
   pub told : IsWantOfMemory old new fault
   pub sinks : IsTrue old.tells → (place : ℕ) (name : List ℕ) → IsWriter plan.parts place name → new.file name ≡ Some []
 
+-- the run of a play broke off, and the log was not asked for
 pub record IsBroken (script : Script) (old new : Outside) (fault : Fault) : Type 0 where
   pub plan : PlanValue
   pub files : PlayFiles
   pub absences : AbsencesStand old new
   pub opened : WasOpened script old plan files
+  pub asked : HasAskedFor old new (read_names plan.parts ++ written_names plan.parts)
   pub why : IsRunFault plan.parts old new fault
   pub world : HasNotBegun plan old new fault ⊎ HasLeft plan files old new fault
   pub left : IsTrue old.tells → AreFronts plan files old new
@@ -134,12 +141,12 @@ IsLogFault log old new (Faults.Absent which) = (which ≡ Log) × Rose old.absen
 IsLogFault log old new other = ⊥
 
 -- the sinks' names hold their texts; the log's name is as before, or holds a front of the log
-pub record IsLogLeft (log : List ℕ) (plan : PlanValue) (files : PlayFiles) (old new : Outside) : Type 0 where
+pub record IsLogLeft (workers : ℕ) (log : List ℕ) (plan : PlanValue) (files : PlayFiles) (old new : Outside) : Type 0 where
   pub samples : List (List ℕ)
   pub files_are : AreFiles old plan.parts files samples
   pub sinks : HoldSinks plan samples new
   pub text : List ℕ
-  pub log_is : IsLogOf plan files new text
+  pub log_is : IsLogOf workers plan files new text
   pub front : (new.file log ≡ old.file log) ⊎ IsFrontOf (new.file log) text
   pub others : OthersAreKept plan.parts log old new
 
@@ -148,10 +155,13 @@ pub record IsClosedWhole (log : List ℕ) (plan : PlanValue) (files : PlayFiles)
   pub goes_on : GoesOn old closed
   pub stand : CountsStand old closed
   pub absences : AbsencesStand old closed
+  pub asked : HasAskedFor old closed (read_names plan.parts ++ written_names plan.parts)
   pub sinks : IsTrue old.tells → (samples : List (List ℕ)) → AreFiles old plan.parts files samples → HoldSinks plan samples closed
   pub kept : IsTrue old.tells → closed.file log ≡ old.file log
 
-pub record IsUnlogged (script : Script) (log : List ℕ) (old new : Outside) (fault : Fault) : Type 0 where
+-- the log wasn't written, though each file was closed well: its file is the last that was asked for, and each call that failed on a sink
+-- was one on it
+pub record IsUnlogged (workers : ℕ) (script : Script) (log : List ℕ) (old new : Outside) (fault : Fault) : Type 0 where
   pub plan : PlanValue
   pub files : PlayFiles
   pub unabsent : TellsAbsence Faults.Absent old new fault
@@ -162,11 +172,13 @@ pub record IsUnlogged (script : Script) (log : List ℕ) (old new : Outside) (fa
   pub whole : IsClosedWhole log plan files old closed
   pub goes_on : GoesOn closed new
   pub since : IsLogFault log closed new fault
+  pub asked : fault ≢ Faults.OutOfMemory → HasAskedFor old new ((read_names plan.parts ++ written_names plan.parts) ++ log ∷ [])
+  pub failed : IsTrue old.tells → old.write_faults < 2 ^ 64 - 1 → (times : ℕ) × (new.failed_writes ≡ with_name log times old.failed_writes)
   pub others : IsTrue old.tells → SameBut log closed new
   pub stand : fault ≢ Faults.WriteFault → CountsStand old new
-  pub left : IsTrue old.tells → IsLogLeft log plan files old new
+  pub left : IsTrue old.tells → IsLogLeft workers log plan files old new
   pub unmade : IsTrue old.tells → fault ≢ Faults.WriteFault → new.file log ≡ old.file log
 
 -- why a play wasn't done whole, and what it left: its files weren't opened, its run failed, or its log wasn't written
-abbrev pub IsUndone : Script → List ℕ → Outside → Outside → Fault → Type 0
-IsUndone script log old new fault = IsUnopened script old new fault ⊎ IsBroken script old new fault ⊎ IsUnlogged script log old new fault
+abbrev pub IsUndone : (workers : ℕ) → Script → List ℕ → Outside → Outside → Fault → Type 0
+IsUndone workers script log old new fault = IsUnopened script old new fault ⊎ IsBroken script old new fault ⊎ IsUnlogged workers script log old new fault

@@ -23,11 +23,11 @@ pub record CanPlay (plan : PlanValue) (entries : List (Option FileSeen)) : Type 
   pub many : length entries ≡ length plan.parts
   pub are : AreFilesOf plan files entries
 
--- What a play leaves that was done whole: its text is the log of a play of the plan, which leads to the play's end; and each sink took what
--- was written to it, which is its text of the plain function.
-pub record IsPlayedWhole (plan : PlanValue) (files : PlayFiles) (before after : List (Option FileSeen)) (text : List ℕ) : Type 0 where
+-- What a play by so many workers leaves that was done whole: its text is the log of a play of the plan, which leads to the play's end; and each
+-- sink took what was written to it, which is its text of the plain function.
+pub record IsPlayedWhole (workers : ℕ) (plan : PlanValue) (files : PlayFiles) (before after : List (Option FileSeen)) (text : List ℕ) : Type 0 where
   pub ending : World
-  pub log : IsPlayLog plan files text ending
+  pub log : IsPlayLog workers plan files text ending
   pub ends : IsPlayedOut plan ending
   pub took : (place : ℕ) (name : List ℕ) → IsWriter plan.parts place name
       → (bytes : List ℕ) × HasTaken before after place bytes × HasWritten ending place bytes × ((samples : List (List ℕ)) → AreSamples plan files samples → bytes ≡ sink_text plan samples place)

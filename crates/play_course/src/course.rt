@@ -1,12 +1,13 @@
 //! The whole course of a play.
 
-ghost use Rattle.std.specs.Prelude.{◌≡◌, ℕ, List, IfErr, IfOk, OnOk};
+ghost use Rattle.std.specs.Prelude.{◌≡◌, ℕ, List, IfErr, IfOk, IsTrue, OnOk};
 ghost use Rattle.outside_io.specs.Files.{AbsencesStand, CountsStand, GoesOn};
 ghost use Rattle.script_lang.specs.PlayScripts.{IsPlayScript};
 ghost use Rattle.play_files.specs.Seen.{file_seen, files_seen};
 ghost use Rattle.play_course.specs.Courses.{HasEnded, HasRun};
-ghost use Rattle.play_course.specs.Outcomes.{IsDone, IsUndone};
+ghost use Rattle.play_course.specs.Outcomes.{HoldsTold, IsDone, IsUndone};
 ghost use Rattle.play_course.specs.Players.{CanPlay};
+ghost use Rattle.play_course.specs.Settling.{parts_of};
 
 use crate::player::{Player, RunFault};
 use crate::settling::{Ran, has_risen, log_fault, parts_of, settle};
@@ -28,7 +29,7 @@ fn run<S: Source, K: Sink, P: Player<S, K>>(
     player: &mut P,
 ) -> Result<Ran, RunFault>
     requires ready { CanPlay plan (files_seen (file_seen S.Source K.Sink) files.old) }
-    ensures { HasRun plan (files_seen (file_seen S.Source K.Sink) files.old)
+    ensures { HasRun (P.workers player.old) (P.tells player.old player.new) plan (files_seen (file_seen S.Source K.Sink) files.old)
         (files_seen (file_seen S.Source K.Sink) files.new) result }
 {
     let summary = match summary_of(alloc, &plan) {
@@ -50,7 +51,7 @@ fn run_and_close<M: Media, P: Player<M::Src, M::Snk>>(
     player: &mut P,
 ) -> Result<Ran, Fault>
     requires ready { CanPlay opened.plan (files_seen (file_seen M.Src.Source M.Snk.Sink) opened.files.items) }
-    ensures { HasEnded opened.plan parts.now (files_seen (file_seen M.Src.Source M.Snk.Sink) opened.files.items) (M.outside media.old) (M.outside media.new) result }
+    ensures { HasEnded (P.workers player.old) (P.tells player.old player.new) opened.plan parts.now (files_seen (file_seen M.Src.Source M.Snk.Sink) opened.files.items) (M.outside media.old) (M.outside media.new) result }
 {
     let Opened { plan, mut files } = opened;
     let read_before = media.read_faults();
@@ -73,10 +74,12 @@ pub fn play_script<M: Media, P: Player<M::Src, M::Snk>>(
 ) -> Result<Summary, Fault>
     requires script { (name : List ℕ) × (text : List ℕ) × IsPlayScript name log.now text script.now }
     ensures goes_on { GoesOn (M.outside media.old) (M.outside media.new) }
-    ensures done { IfOk result (IsDone script.now log.now (M.outside media.old) (M.outside media.new)) }
+    ensures done { IfOk result (IsDone (P.workers player.old) script.now log.now (M.outside media.old) (M.outside media.new)) }
+    ensures told { OnOk result (IsTrue (M.outside media.old).tells
+        → HoldsTold (P.tells player.old player.new (parts_of script.now)) log.now (M.outside media.new)) }
     ensures stand { OnOk result (CountsStand (M.outside media.old) (M.outside media.new)) }
     ensures absences { OnOk result (AbsencesStand (M.outside media.old) (M.outside media.new)) }
-    ensures undone { IfErr result (IsUndone script.now log.now (M.outside media.old) (M.outside media.new)) }
+    ensures undone { IfErr result (IsUndone (P.workers player.old) script.now log.now (M.outside media.old) (M.outside media.new)) }
 {
     let opened = match open_files(alloc, media, script) {
         Ok(opened) => opened,

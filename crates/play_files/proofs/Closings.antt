@@ -1,10 +1,11 @@
 -- Files are closed one after another.
-use Rattle.std.proofs.Common.{◌≡◌, ℕ, zero, suc, ◌+◌, ◌<◌, ◌≤◌, ◌^◌, List, [], ◌∷◌, length, Option, Some, None, Result, Ok, Err, OnOk, OnErr, refl, sym, ◌∙◌, ap, subst, arith}
+use Rattle.std.proofs.Common.{◌≡◌, ℕ, zero, suc, ◌+◌, ◌-◌, ◌<◌, ◌≤◌, ◌^◌, List, [], ◌∷◌, length, Option, Some, None, Result, Ok, Err, OnOk, OnErr, refl, sym, ◌∙◌, ap, subst, arith}
 use Rattle.std.specs.List.{sum_by}
 use Rattle.std.proofs.lemmas.List.{take_all}
 use Rattle.std.proofs.lemmas.List.Sums.{sum_by-cons}
 use Rattle.outside_io.specs.Causes.{Rose, sum_of_counts}
-use Rattle.outside_io.specs.Files.{GoesOn, IsFrontOf, Outside, SameBut}
+use Rattle.outside_io.specs.Files.{GoesOn, IsFrontOf, Outside, SameBut, failed_with, with_name}
+use Rattle.outside_io.proofs.Names.{no_name}
 use Rattle.outside_io.specs.Moves.{WhereTold}
 use Rattle.outside_io.specs.declared.source.Failed.{Failed}
 use Rattle.play_files.specs.Closing.{AreNamedApart, AreClosed, IsClosed, IsSinkAt, failed_reads, failed_writes, joined}
@@ -29,28 +30,32 @@ pub none_closed : (old : Outside) → IsClosed None old old (Ok tt)
 none_closed old = record {
   goes_on = same old;
   absences = refl;
+  openings = refl;
+  named = λ few same. refl;
   reads = λ few. omega arith;
   writes = omega arith;
   whole = λ few. omega arith;
   failed = tt;
   others = λ name other. refl;
-  unwritten = λ none. (refl, refl);
+  unwritten = λ none. (refl, refl, refl);
   unread = λ none. refl;
   held = λ sink frames is. absurd cc;
   front = λ sink frames is. absurd cc;
 }
 
-pub source_closed : (source : SourceSeen) (format : _) (frames : ℕ) (old new : Outside) → GoesOn old new → new.file ≡ old.file → new.absences ≡ old.absences → new.write_faults ≡ old.write_faults
+pub source_closed : (source : SourceSeen) (format : _) (frames : ℕ) (old new : Outside) → GoesOn old new → new.file ≡ old.file → new.absences ≡ old.absences → new.openings ≡ old.openings → new.failed_writes ≡ old.failed_writes → new.write_faults ≡ old.write_faults
     → new.read_faults ≡ sum_of_counts old.read_faults source.faults → IsClosed (Some (Reads source format frames)) old new (Ok tt)
-source_closed source format frames old new on files absences writes added = record {
+source_closed source format frames old new on files absences openings names writes added = record {
   goes_on = on;
   absences = absences;
+  openings = openings;
+  named = λ few same. names;
   reads = λ few. added;
   writes = omega arith;
   whole = λ few. omega arith;
   failed = tt;
   others = λ name other. ap (λ (f : List ℕ → Option (List ℕ)). f name) files;
-  unwritten = λ none. (files, writes);
+  unwritten = λ none. (files, writes, names);
   unread = λ none. (let more = on.read_faults in omega arith);
   held = λ sink frames is. absurd cc;
   front = λ sink frames is. absurd cc;
@@ -63,13 +68,24 @@ front_of (Err failed) held told whole front bytes is = front bytes is
 same_sink : (a b : SinkSeen) (n m : ℕ) → Some (Writes a n) ≡ Some (Writes b m) → a ≡ b
 same_sink a b n m e = cc
 
+-- where no failure was counted, none is named
+none_named : (name : List ℕ) (before now faults : ℕ) (result : Result (Unit {0}) Failed) (old new : Option (List (List ℕ))) → before < 2 ^ 64 - 1 → now ≡ before
+    → OnOk result (now ≡ sum_of_counts before faults) → OnErr result (Rose (sum_of_counts before faults) now) → new ≡ with_name name (failed_with faults result) old → new ≡ old
+none_named name before now faults (Ok done) old new few same whole failed names =
+    let none : faults ≡ 0 = omega (arith, few, same, whole) in
+    names ∙ (ap (λ (times : ℕ). with_name name times old) none ∙ sym (no_name name old))
+none_named name before now faults (Err other) old new few same whole failed names = absurd (omega (arith, few, same, failed))
+
 pub sink_closed : (sink : SinkSeen) (frames : ℕ) (old new : Outside) (result : Result (Unit {0}) Failed) → GoesOn old new → SameBut sink.name old new
-    → OnOk result (new.file sink.name ≡ sink.told) → OnErr result (WhereTold sink.told (IsFrontOf (new.file sink.name))) → new.absences ≡ old.absences → new.read_faults ≡ old.read_faults
+    → OnOk result (new.file sink.name ≡ sink.told) → OnErr result (WhereTold sink.told (IsFrontOf (new.file sink.name))) → new.absences ≡ old.absences → new.openings ≡ old.openings → new.read_faults ≡ old.read_faults
     → sum_of_counts old.write_faults sink.faults ≤ new.write_faults → OnOk result (new.write_faults ≡ sum_of_counts old.write_faults sink.faults)
-    → OnErr result (Rose (sum_of_counts old.write_faults sink.faults) new.write_faults) → IsClosed (Some (Writes sink frames)) old new result
-sink_closed sink frames old new result on others held front absences reads added whole failed = record {
+    → OnErr result (Rose (sum_of_counts old.write_faults sink.faults) new.write_faults)
+    → new.failed_writes ≡ with_name sink.name (failed_with sink.faults result) old.failed_writes → IsClosed (Some (Writes sink frames)) old new result
+sink_closed sink frames old new result on others held front absences openings reads added whole failed names = record {
   goes_on = on;
   absences = absences;
+  openings = openings;
+  named = λ few same. none_named sink.name old.write_faults new.write_faults sink.faults result old.failed_writes new.failed_writes few same whole failed names;
   reads = λ few. omega arith;
   writes = added;
   whole = λ few. whole;
@@ -87,12 +103,14 @@ pub nothing_closed : (old : Outside) → AreClosed [] old old (Ok tt)
 nothing_closed old = record {
   goes_on = same old;
   absences = refl;
+  openings = refl;
+  named = λ few same. refl;
   reads = λ few. omega arith;
   writes = omega arith;
   whole = λ few. omega arith;
   failed = tt;
   others = λ name other. refl;
-  unwritten = λ none. (refl, refl);
+  unwritten = λ none. (refl, refl, refl);
   unread = λ none. refl;
   held = λ apart place sink at. absurd (let e = at.1 in cc);
   front = λ apart place sink at. absurd (let e = at.1 in cc);
@@ -158,6 +176,8 @@ module _ (file : Option FileSeen) (files : List (Option FileSeen)) (old mid new 
       record {
         goes_on = then old mid new C.goes_on O.goes_on;
         absences = O.absences ∙ C.absences;
+        openings = O.openings ∙ C.openings;
+        named = λ few same. (let a = (C.goes_on).write_faults in let b = (O.goes_on).write_faults in O.named (omega (arith, few, same, a, b)) (omega (arith, same, a, b)) ∙ C.named few (omega (arith, same, a, b)));
         reads = λ few. (let a = C.reads few in let b = O.reads (omega arith) in omega arith);
         writes = omega arith;
         whole = λ few. both_ok r q (mid.write_faults ≡ sum_of_counts old.write_faults (sum_by failed_writes files)) (mid.write_faults < 2 ^ 64 → new.write_faults ≡ sum_of_counts mid.write_faults (failed_writes file)) _
@@ -169,7 +189,7 @@ module _ (file : Option FileSeen) (files : List (Option FileSeen)) (old mid new 
         unwritten = λ none.
             (let a = O.unwritten (λ sink frames is. none zero sink (first_sink file files sink frames is)) in
             let b = C.unwritten (λ place sink at. none (suc place) sink (later_sink file files place sink at)) in
-            (a.0 ∙ b.0, a.1 ∙ b.1));
+            (a.0 ∙ b.0, a.1 ∙ b.1, a.2 ∙ b.2));
         unread = λ none. O.unread (omega arith) ∙ C.unread (omega arith);
         held = more_held;
         front = more_front;

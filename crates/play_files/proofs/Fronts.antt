@@ -11,7 +11,7 @@ use Rattle.play_files.specs.Opening.{IsSinkFault, IsSinkOf, IsSinkRefused, IsSou
 use Rattle.play_files.specs.Seen.{SinkSeen, SourceSeen}
 
 pub still : (old : Outside) → IsStill old old
-still old = record { goes_on = same old; files = refl; reads = refl; writes = refl; absences = refl }
+still old = record { goes_on = same old; files = refl; reads = refl; writes = refl; absences = refl; failed = refl }
 
 pub still_then : (old mid new : Outside) → IsStill old mid → IsStill mid new → IsStill old new
 still_then old mid new a b = record {
@@ -20,6 +20,7 @@ still_then old mid new a b = record {
   reads = b.reads ∙ a.reads;
   writes = b.writes ∙ a.writes;
   absences = b.absences ∙ a.absences;
+  failed = b.failed ∙ a.failed;
 }
 
 -- a count that rose later rose

@@ -1,3 +1,4 @@
+pub mod Asking
 pub mod Lists
 pub mod Results
 pub mod Closings

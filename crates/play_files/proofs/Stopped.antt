@@ -166,6 +166,7 @@ module _ {F : Type 0} (seen : F → FileSeen) (entries : List (Option F)) where
           reads = C.unread (none_summed (files_seen seen entries) (λ place file e. (let r = read_here place file e in read_calm old _ (r.0).form file r.1)));
           writes = none.1;
           absences = C.absences;
+          failed = none.2;
         }
 
     pub have_heads : HaveHeads old parts count heads

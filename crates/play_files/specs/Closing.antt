@@ -1,5 +1,5 @@
 -- What the closing of files leaves.
-use Rattle.std.specs.Prelude.{◌≡◌, ◌≢◌, ℕ, ◌<◌, ◌^◌, ◌≤◌, List, slice_get, sum_by, Option, Some, Result, Ok, Err, OnOk, OnErr}
+use Rattle.std.specs.Prelude.{◌≡◌, ◌≢◌, ℕ, ◌-◌, ◌<◌, ◌^◌, ◌≤◌, List, slice_get, sum_by, Option, Some, Result, Ok, Err, OnOk, OnErr}
 use Rattle.outside_io.specs.Causes.{Rose, sum_of_counts}
 use Rattle.outside_io.specs.Files.{GoesOn, IsFrontOf, Outside}
 use Rattle.outside_io.specs.Moves.{WhereTold}
@@ -29,17 +29,19 @@ IsNoneOf files name = (place : ℕ) (sink : SinkSeen) → IsSinkAt files place s
 
 -- Files were closed, and this is the answer. Their faults are counted. Of names, only those of sinks changed: each has what its sink
 -- took, unless a closing failed, and a front of that in any case. Where no read failed that count stands, and where there is no sink
--- nothing is written.
+-- nothing is written; where no failed write was counted, none is named.
 pub record AreClosed (files : List (Option FileSeen)) (old new : Outside) (result : Result (Unit {0}) Failed) : Type 0 where
   pub goes_on : GoesOn old new
   pub absences : new.absences ≡ old.absences
+  pub openings : new.openings ≡ old.openings
+  pub named : old.write_faults < 2 ^ 64 - 1 → new.write_faults ≡ old.write_faults → new.failed_writes ≡ old.failed_writes
   pub reads : old.read_faults < 2 ^ 64 → new.read_faults ≡ sum_of_counts old.read_faults (sum_by failed_reads files)
   pub writes : sum_of_counts old.write_faults (sum_by failed_writes files) ≤ new.write_faults
   pub unread : sum_by failed_reads files ≡ 0 → new.read_faults ≡ old.read_faults
   pub whole : old.write_faults < 2 ^ 64 → OnOk result (new.write_faults ≡ sum_of_counts old.write_faults (sum_by failed_writes files))
   pub failed : OnErr result (Rose (sum_of_counts old.write_faults (sum_by failed_writes files)) new.write_faults)
   pub others : (name : List ℕ) → IsNoneOf files name → new.file name ≡ old.file name
-  pub unwritten : ((place : ℕ) (sink : SinkSeen) → IsSinkAt files place sink → ⊥) → (new.file ≡ old.file) × (new.write_faults ≡ old.write_faults)
+  pub unwritten : ((place : ℕ) (sink : SinkSeen) → IsSinkAt files place sink → ⊥) → (new.file ≡ old.file) × (new.write_faults ≡ old.write_faults) × (new.failed_writes ≡ old.failed_writes)
   pub held : AreNamedApart files → (place : ℕ) (sink : SinkSeen) → IsSinkAt files place sink → OnOk result (new.file sink.name ≡ sink.told)
   pub front : AreNamedApart files → (place : ℕ) (sink : SinkSeen) → IsSinkAt files place sink → WhereTold sink.told (IsFrontOf (new.file sink.name))
 
@@ -47,12 +49,14 @@ pub record AreClosed (files : List (Option FileSeen)) (old new : Outside) (resul
 pub record IsClosed (file : Option FileSeen) (old new : Outside) (result : Result (Unit {0}) Failed) : Type 0 where
   pub goes_on : GoesOn old new
   pub absences : new.absences ≡ old.absences
+  pub openings : new.openings ≡ old.openings
+  pub named : old.write_faults < 2 ^ 64 - 1 → new.write_faults ≡ old.write_faults → new.failed_writes ≡ old.failed_writes
   pub reads : old.read_faults < 2 ^ 64 → new.read_faults ≡ sum_of_counts old.read_faults (failed_reads file)
   pub writes : sum_of_counts old.write_faults (failed_writes file) ≤ new.write_faults
   pub unread : failed_reads file ≡ 0 → new.read_faults ≡ old.read_faults
   pub whole : old.write_faults < 2 ^ 64 → OnOk result (new.write_faults ≡ sum_of_counts old.write_faults (failed_writes file))
   pub failed : OnErr result (Rose (sum_of_counts old.write_faults (failed_writes file)) new.write_faults)
-  pub unwritten : ((sink : SinkSeen) (frames : ℕ) → file ≡ Some (Writes sink frames) → ⊥) → (new.file ≡ old.file) × (new.write_faults ≡ old.write_faults)
+  pub unwritten : ((sink : SinkSeen) (frames : ℕ) → file ≡ Some (Writes sink frames) → ⊥) → (new.file ≡ old.file) × (new.write_faults ≡ old.write_faults) × (new.failed_writes ≡ old.failed_writes)
   pub others : (name : List ℕ) → ((sink : SinkSeen) (frames : ℕ) → file ≡ Some (Writes sink frames) → sink.name ≢ name) → new.file name ≡ old.file name
   pub held : (sink : SinkSeen) (frames : ℕ) → file ≡ Some (Writes sink frames) → OnOk result (new.file sink.name ≡ sink.told)
   pub front : (sink : SinkSeen) (frames : ℕ) → file ≡ Some (Writes sink frames) → WhereTold sink.told (IsFrontOf (new.file sink.name))

@@ -1,5 +1,5 @@
 -- What the opening of a play's files leaves where it wasn't done whole.
-use Rattle.std.specs.Prelude.{◌≡◌, ◌⊎◌, ℕ, ◌<◌, List, [], length, slice_get, Some, IsTrue}
+use Rattle.std.specs.Prelude.{◌≡◌, ◌≢◌, ◌⊎◌, ℕ, ◌+◌, ◌<◌, List, [], ◌++◌, length, take, slice_get, Some, IsTrue}
 use Rattle.omx_types.specs.declared.fault.Fault.{Fault}
 use Rattle.omx_types.specs.declared.fault.Fault.TheVariants as Faults
 use Rattle.outside_io.specs.Files.{GoesOn, Outside, TellsAbsence}
@@ -11,6 +11,7 @@ use Rattle.play_forms.specs.Parts.{source_number}
 use Rattle.play_forms.specs.Plans.{IsFaultOfScript, IsFit, IsFitFault, IsFitted, IsPlanOfScript, PlanValue}
 use Rattle.play_plan_laws.specs.Assemblies.{PlayFiles}
 use Rattle.play_result_laws.specs.Files.{AreFiles, IsReader, IsWriter, written_by}
+use Rattle.play_files.specs.Asked.{HasAskedFor, read_names, written_names}
 use Rattle.play_files.specs.Faults.{fault_of_plan}
 use Rattle.play_files.specs.Opening.{HasHead, IsSinkFault, IsSourceMet, IsStill}
 
@@ -19,12 +20,13 @@ abbrev pub HaveHeads : Outside → List PartLine → ℕ → List WavHead → Ty
 HaveHeads old parts count heads = IsTrue old.tells → (place : ℕ) (name : List ℕ) → place < count → IsReader parts place name
     → (head : WavHead) × (slice_get heads (source_number parts place) ≡ Some head) × HasHead old name head
 
--- the script has no plan, or memory was wanted for it
+-- the script has no plan, or memory was wanted for it; no file was asked for
 pub record IsUnplanned (script : Script) (old new : Outside) (fault : Fault) : Type 0 where
   pub why : PlanFault
   pub is : IsFaultOfScript script why
   pub told : fault ≡ fault_of_plan why
   pub still : IsStill old new
+  pub unasked : new.openings ≡ old.openings
 
 -- its file was the first of a source that wasn't opened
 pub record IsUnread (planned : PlanValue) (old new : Outside) (fault : Fault) : Type 0 where
@@ -33,7 +35,7 @@ pub record IsUnread (planned : PlanValue) (old new : Outside) (fault : Fault) : 
   pub before : HaveHeads old planned.parts place heads
   pub met : IsSourceMet old new planned.parts place fault
 
--- the plan doesn't fit its files
+-- the plan doesn't fit its files, of which no sink's was asked for
 pub record IsUnfit (planned : PlanValue) (old new : Outside) (fault : Fault) : Type 0 where
   pub heads : List WavHead
   pub have : HaveHeads old planned.parts (length planned.parts) heads
@@ -43,6 +45,7 @@ pub record IsUnfit (planned : PlanValue) (old new : Outside) (fault : Fault) : T
   pub is : IsFitFault plan why
   pub told : fault ≡ fault_of_plan why
   pub still : IsStill old new
+  pub asked : HasAskedFor old new (read_names planned.parts)
 
 -- the name of each sink before the place holds a new file, and each other name is as before
 pub record AreEmptied (parts : List PartLine) (count : ℕ) (old new : Outside) : Type 0 where
@@ -65,6 +68,8 @@ pub record IsUnwritten (planned : PlanValue) (old new : Outside) (fault : Fault)
   pub name : List ℕ
   pub writes : written_by part.form ≡ Some name
   pub why : IsSinkFault part.line name old new fault
+  -- its file was the last that was asked for, behind the sources and the sinks before it
+  pub asked : fault ≢ Faults.OutOfMemory → HasAskedFor old new (read_names plan.parts ++ written_names (take (place + 1) plan.parts))
   pub left : IsTrue old.tells → AreEmptied plan.parts place old new
 
 -- why the files of a play aren't open, and what is left

@@ -2,6 +2,7 @@ pub mod Seen
 pub mod Names
 pub mod Closing
 pub mod Faults
+pub mod Asked
 pub mod Opening
 pub mod Whole
 pub mod Left

@@ -1,5 +1,5 @@
 -- How far the files of a play are open.
-use Rattle.std.specs.Prelude.{◌≡◌, ◌≢◌, ℕ, ◌<◌, ◌≤◌, List, [], length, slice_get, slice_index_or, Option, Some, None, option_map, Ok, Err, IsTrue}
+use Rattle.std.specs.Prelude.{◌≡◌, ◌≢◌, ℕ, ◌+◌, ◌<◌, ◌≤◌, List, take, [], length, slice_get, slice_index_or, Option, Some, None, option_map, Ok, Err, IsTrue}
 use Rattle.omx_types.specs.declared.fault.Fault.{Fault}
 use Rattle.omx_types.specs.declared.fault.Fault.TheVariants as Faults
 use Rattle.omx_types.specs.declared.fault.WavFault.{WavFault}
@@ -16,15 +16,17 @@ use Rattle.script_lang.specs.declared.play_line.PartForm.TheVariants.{Late, Sink
 use Rattle.script_lang.specs.declared.play_line.PartLine.{PartLine}
 use Rattle.play_forms.specs.Parts.{source_number}
 use Rattle.play_result_laws.specs.Files.{read_by, written_by}
+use Rattle.play_files.specs.Asked.{HasAskedFor, read_names}
 use Rattle.play_files.specs.Seen.{FileSeen, Reads, SinkSeen, SourceSeen, Writes}
 
--- nothing that is told changed, and no count rose
+-- nothing that is told of the files changed, no count rose, and no failed write was named
 pub record IsStill (old new : Outside) : Type 0 where
   pub goes_on : GoesOn old new
   pub files : new.file ≡ old.file
   pub reads : new.read_faults ≡ old.read_faults
   pub writes : new.write_faults ≡ old.write_faults
   pub absences : new.absences ≡ old.absences
+  pub failed : new.failed_writes ≡ old.failed_writes
 
 -- ---- one file
 
@@ -160,13 +162,14 @@ module _ {F : Type 0} where
     pub rest : (place : ℕ) (part : PartLine) → count ≤ place → slice_get parts place ≡ Some part
         → HasAt seen entries place (IsReadFor old (slice_get heads (source_number parts place)) part.form)
 
--- the file of the source at the place isn't open
+-- the file of the source at the place isn't open; it was the last that was asked for, behind those of the sources before it
 pub record IsSourceMet (old new : Outside) (parts : List PartLine) (place : ℕ) (fault : Fault) : Type 0 where
   pub part : PartLine
   pub there : slice_get parts place ≡ Some part
   pub name : List ℕ
   pub reads : read_by part.form ≡ Some name
   pub refused : IsSourceRefused part.line name old new fault
+  pub asked : fault ≢ Faults.OutOfMemory → HasAskedFor old new (read_names (take (place + 1) parts))
 
 -- nor is that of the sink
 pub record IsSinkMet (old new : Outside) (parts : List PartLine) (place : ℕ) (fault : Fault) : Type 0 where

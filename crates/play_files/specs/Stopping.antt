@@ -1,10 +1,12 @@
 -- Where the opening of a planned play's files stopped, with those that are open then.
-use Rattle.std.specs.Prelude.{◌≡◌, ◌⊎◌, ℕ, List, length, Option}
+use Rattle.std.specs.Prelude.{◌≡◌, ◌≢◌, ◌⊎◌, ℕ, ◌+◌, List, ◌++◌, length, take, Option}
 use Rattle.omx_types.specs.declared.fault.Fault.{Fault}
+use Rattle.omx_types.specs.declared.fault.Fault.TheVariants as Faults
 use Rattle.outside_io.specs.Files.{Outside}
 use Rattle.wav_form.specs.declared.heads.WavHead.{WavHead}
 use Rattle.play_forms.specs.declared.plan_fault.PlanFault.{PlanFault}
 use Rattle.play_forms.specs.Plans.{IsFit, IsFitFault, IsFitted, IsValid, PlanValue}
+use Rattle.play_files.specs.Asked.{HasAskedFor, read_names, written_names}
 use Rattle.play_files.specs.Faults.{fault_of_plan}
 use Rattle.play_files.specs.Opening.{AreOpen, AreRead, IsSinkMet, IsSourceMet, IsStill}
 use Rattle.play_files.specs.Seen.{FileSeen}
@@ -17,6 +19,7 @@ module _ {F : Type 0} where
     pub fit : IsFit plan
     pub still : IsStill old new
     pub opened : AreOpen seen old plan.parts plan.frames (length plan.parts) heads entries
+    pub asked : HasAskedFor old new (read_names plan.parts ++ written_names plan.parts)
 
   -- at the source of the place
   pub record AtSource (seen : F → FileSeen) (old new : Outside) (planned : PlanValue) (heads : List WavHead) (entries : List (Option F)) (fault : Fault) : Type 0 where
@@ -32,6 +35,7 @@ module _ {F : Type 0} where
     pub told : fault ≡ fault_of_plan why
     pub still : IsStill old new
     pub read : AreRead seen old planned.parts (length planned.parts) heads entries
+    pub asked : HasAskedFor old new (read_names planned.parts)
 
   -- at the sink of the place
   pub record AtSink (seen : F → FileSeen) (old new : Outside) (planned plan : PlanValue) (heads : List WavHead) (entries : List (Option F)) (fault : Fault) : Type 0 where
@@ -40,6 +44,7 @@ module _ {F : Type 0} where
     pub place : ℕ
     pub met : IsSinkMet old new plan.parts place fault
     pub opened : AreOpen seen old plan.parts plan.frames place heads entries
+    pub asked : fault ≢ Faults.OutOfMemory → HasAskedFor old new (read_names plan.parts ++ written_names (take (place + 1) plan.parts))
 
   abbrev pub HasStopped : (F → FileSeen) → Outside → Outside → PlanValue → PlanValue → List WavHead → List (Option F) → Fault → Type 0
   HasStopped seen old new planned plan heads entries fault =

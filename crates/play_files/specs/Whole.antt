@@ -1,5 +1,5 @@
 -- The files of a play are open.
-use Rattle.std.specs.Prelude.{◌≡◌, ℕ, List, length, slice_get, Option, Some, None, option_map, option_and_then, IsTrue}
+use Rattle.std.specs.Prelude.{◌≡◌, ℕ, List, ◌++◌, length, slice_get, Option, Some, None, option_map, option_and_then, IsTrue}
 use Rattle.outside_io.specs.Files.{Outside}
 use Rattle.il_machine.specs.Files.{Offered, OfferedFrom, OfferedTo}
 use Rattle.wav_form.specs.declared.heads.WavHead.{WavHead}
@@ -7,6 +7,7 @@ use Rattle.script_lang.specs.declared.script.Script.{Script}
 use Rattle.play_forms.specs.Plans.{IsFit, IsFitted, IsPlanOfScript, PlanValue}
 use Rattle.play_plan_laws.specs.Assemblies.{IsReady, PlayFiles, file_at}
 use Rattle.play_result_laws.specs.Files.{AreFiles}
+use Rattle.play_files.specs.Asked.{HasAskedFor, read_names, written_names}
 use Rattle.play_files.specs.Opening.{AreOpen, IsStill}
 use Rattle.play_files.specs.Seen.{FileSeen, offer}
 
@@ -38,6 +39,7 @@ module _ {F : Type 0} where
     pub fit : IsFit plan
     pub still : IsStill old new
     pub opened : AreOpen seen old plan.parts plan.frames (length plan.parts) heads entries
+    pub asked : HasAskedFor old new (read_names plan.parts ++ written_names plan.parts)
     pub ready : IsReady plan (play_files seen heads entries)
     pub offered : (place : ℕ) (file : Option F) → slice_get entries place ≡ Some file → option_map offer (option_map seen file) ≡ file_at plan (play_files seen heads entries) place
     pub files_are : IsTrue old.tells → (samples : List (List ℕ)) × AreFiles old plan.parts (play_files seen heads entries) samples

@@ -1,7 +1,9 @@
 //! Sinks are opened, in the order of the script.
 
-ghost use Rattle.std.specs.Prelude.{◌≡◌, ℕ, ◌<◌, ◌≤◌, length, slice_get, slice_set, IfErr, IfNone, IfOk, IfSome, OnOk, Some, None};
+ghost use Rattle.std.specs.Prelude.{◌≡◌, ◌≢◌, ℕ, ◌+◌, ◌<◌, ◌≤◌, length, take, slice_get, slice_set, Err, IfErr, IfNone, IfOk, IfSome, OnOk, Some, None};
+ghost use Rattle.outside_io.specs.Files.{with_name};
 ghost use Rattle.play_result_laws.specs.Files.{written_by};
+ghost use Rattle.play_files.specs.Asked.{HasAskedFor, written_names};
 ghost use Rattle.play_files.specs.Opening.{AreSinksFree, HaveSinks, IsSinkMet, IsSinkOf, IsSinkRefused, IsStill};
 ghost use Rattle.play_files.specs.Seen.{file_seen, sink_seen};
 
@@ -29,6 +31,7 @@ fn open_sink<M: Media>(alloc: Global, media: &mut M, name: &str, line: u32) -> R
     ensures still { OnOk result (IsStill (M.outside media.old) (M.outside media.new)) }
     ensures opened { IfOk result (λ snk. IsSinkOf (M.outside media.old) name.now (sink_seen M.Snk.Sink snk)) }
     ensures refused { IfErr result (IsSinkRefused line name.now (M.outside media.old) (M.outside media.new)) }
+    ensures asked { result ≢ Err Fault.OutOfMemory → (M.outside media.new).openings ≡ with_name name.now 1 (M.outside media.old).openings }
 {
     match media.sink(alloc, name) {
         Ok(snk) => Ok(snk),
@@ -61,8 +64,10 @@ pub(crate) fn open_sinks<M: Media>(
     requires free { AreSinksFree parts.now files.old }
     ensures still { OnOk result (IsStill (M.outside media.old) (M.outside media.new)) }
     ensures opened { OnOk result (HaveSinks (file_seen M.Src.Source M.Snk.Sink) (M.outside media.old) parts.now planned.now (length parts.now) files.old files.new) }
+    ensures asked { OnOk result (HasAskedFor (M.outside media.old) (M.outside media.new) (written_names parts.now)) }
     ensures met { IfErr result (λ fault. (place : ℕ) × IsSinkMet (M.outside media.old) (M.outside media.new) parts.now place fault
-        × HaveSinks (file_seen M.Src.Source M.Snk.Sink) (M.outside media.old) parts.now planned.now place files.old files.new) }
+        × HaveSinks (file_seen M.Src.Source M.Snk.Sink) (M.outside media.old) parts.now planned.now place files.old files.new
+        × (fault ≢ Fault.OutOfMemory → HasAskedFor (M.outside media.old) (M.outside media.new) (written_names (take (place + 1) parts.now)))) }
 {
     for place in 0..parts.len() {
         let part = &parts[place];

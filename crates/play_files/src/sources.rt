@@ -1,7 +1,9 @@
 //! Sources are opened, in the order of the script.
 
-ghost use Rattle.std.specs.Prelude.{◌≡◌, ℕ, ◌<◌, ◌≤◌, length, [], ◌∷◌, ◌++◌, ◌+◌, vec_len, vec_capacity, IfErr, IfNone, IfOk, IfSome, OnOk, Some, None};
+ghost use Rattle.std.specs.Prelude.{◌≡◌, ℕ, ◌<◌, ◌≤◌, length, [], ◌∷◌, ◌++◌, ◌+◌, vec_len, vec_capacity, ◌≢◌, Err, IfErr, IfNone, IfOk, IfSome, OnOk, Some, None};
+ghost use Rattle.outside_io.specs.Files.{with_name};
 ghost use Rattle.play_result_laws.specs.Files.{read_by};
+ghost use Rattle.play_files.specs.Asked.{HasAskedFor, read_names};
 ghost use Rattle.play_files.specs.Opening.{AreRead, IsSourceMet, IsSourceOf, IsSourceRefused, IsStill};
 ghost use Rattle.play_files.specs.Seen.{file_seen, source_seen};
 
@@ -34,6 +36,7 @@ fn open_source<M: Media>(
     ensures still { OnOk result (IsStill (M.outside media.old) (M.outside media.new)) }
     ensures opened { IfOk result (λ opened. IsSourceOf (M.outside media.old) name.now opened.1 (source_seen M.Src.Source opened.0)) }
     ensures refused { IfErr result (IsSourceRefused line name.now (M.outside media.old) (M.outside media.new)) }
+    ensures asked { result ≢ Err Fault.OutOfMemory → (M.outside media.new).openings ≡ with_name name.now 1 (M.outside media.old).openings }
 {
     let mut src = match media.source(alloc, name) {
         Ok(src) => src,
@@ -77,6 +80,7 @@ pub(crate) fn open_sources<M: Media>(
     requires files_room { length parts.now ≤ vec_capacity files.old }
     ensures still { OnOk result (IsStill (M.outside media.old) (M.outside media.new)) }
     ensures read { OnOk result (AreRead (file_seen M.Src.Source M.Snk.Sink) (M.outside media.old) parts.now (length parts.now) heads.new.items files.new.items) }
+    ensures asked { OnOk result (HasAskedFor (M.outside media.old) (M.outside media.new) (read_names parts.now)) }
     ensures met { IfErr result (λ fault. (place : ℕ) × IsSourceMet (M.outside media.old) (M.outside media.new) parts.now place fault
         × AreRead (file_seen M.Src.Source M.Snk.Sink) (M.outside media.old) parts.now place heads.new.items files.new.items) }
 {

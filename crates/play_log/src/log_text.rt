@@ -1,11 +1,11 @@
 //! The text of a whole log, which is made as it is written.
 
-ghost use Rattle.std.specs.Prelude.{◌≡◌, ◌≢◌, ◌++◌, ◌+◌, ◌<◌, ◌≤◌, ◌^◌, [], Err, Some, IfErr, IfOk, OnOk, OnErr, IsTrue, IsFalse, All, List, codes, false, length, map};
+ghost use Rattle.std.specs.Prelude.{ℕ, ◌≡◌, ◌≢◌, ◌++◌, ◌+◌, ◌<◌, ◌≤◌, ◌^◌, [], Err, Some, IfErr, IfOk, OnOk, OnErr, IsTrue, IsFalse, All, List, codes, false, length, map};
 ghost use Rattle.std.specs.Fmt.{decimal};
 ghost use Rattle.std.specs.List.{flat_map};
 ghost use Rattle.std.specs.Io.KnownBytes.{append_known};
 ghost use Rattle.outside_io.specs.Causes.{HasCause};
-ghost use Rattle.outside_io.specs.Files.{GoesOn, SameBut};
+ghost use Rattle.outside_io.specs.Files.{GoesOn, SameBut, with_name};
 ghost use Rattle.outside_io.specs.Keeping.{KeepsSink};
 ghost use Rattle.outside_io.specs.Moves.{AppendsFront};
 ghost use Rattle.outside_io.specs.Whole.{HasWriteReason, IsKeptOrFrontOf};
@@ -228,6 +228,9 @@ pub fn write_log<M: Media>(
     ensures write_stays { result ≢ Err Refused.Failed → (M.outside media.new).write_faults ≡ (M.outside media.old).write_faults }
     ensures absences_stay { result ≢ Err Refused.Absent → (M.outside media.new).absences ≡ (M.outside media.old).absences }
     ensures read_faults { (M.outside media.new).read_faults ≡ (M.outside media.old).read_faults }
+    ensures asked { result ≢ Err Refused.OutOfMemory → (M.outside media.new).openings ≡ with_name name.now 1 (M.outside media.old).openings }
+    ensures failed_names { IsTrue (M.outside media.old).tells →
+        (times : ℕ) × ((M.outside media.new).failed_writes ≡ with_name name.now times (M.outside media.old).failed_writes) }
 {
     let Ok(mut held) = Gathered::new(alloc) else {
         return Err(Refused::OutOfMemory);

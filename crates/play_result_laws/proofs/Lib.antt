@@ -11,3 +11,4 @@ pub mod Plainly
 pub mod Opened
 pub mod Ends
 pub mod Texts
+pub mod Claiming

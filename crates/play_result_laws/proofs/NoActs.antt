@@ -49,8 +49,8 @@ opening_stream plan files w place below O =
     in
     ap (λ (n : ℕ). stream_of n w) (let o : place ≡ 0 + place = omega arith in o) ∙ (found ∙ V.streams place below)
 
-pub no_acts : (plan : PlanValue) (files : PlayFiles) (new : Outside) (place byte : ℕ) (name bytes : List ℕ) → IsWriter plan.parts place name → new.file name ≡ Some (byte ∷ bytes) → IsLogOf plan files new (codes "end\n") → ⊥
-no_acts plan files new place byte name bytes writer held L =
+pub no_acts : (workers : ℕ) (plan : PlanValue) (files : PlayFiles) (new : Outside) (place byte : ℕ) (name bytes : List ℕ) → IsWriter plan.parts place name → new.file name ≡ Some (byte ∷ bytes) → IsLogOf workers plan files new (codes "end\n") → ⊥
+no_acts workers plan files new place byte name bytes writer held L =
     let M = L.log in
     let N = M.names in
     let lines = no_lines N.lines N.has_lines in

@@ -1,4 +1,4 @@
--- What a play on one thread leaves that met a fault.
+-- What a play leaves that met a fault.
 use Rattle.std.specs.Prelude.{◌≡◌, ◌⊎◌, ℕ, List}
 use Rattle.outside_io.specs.Files.{IsFrontOf, Outside}
 use Rattle.play_forms.specs.Plain.{sink_text}
@@ -12,19 +12,19 @@ abbrev pub IsKeptOrFront : List ℕ → List ℕ → Outside → Outside → Typ
 IsKeptOrFront name text old new = (new.file name ≡ old.file name) ⊎ IsFrontOf (new.file name) text
 
 -- a front of a log of the play, which is written once each sink holds its whole text
-abbrev pub IsLogBegun : PlanValue → PlayFiles → List (List ℕ) → List ℕ → Outside → Type 0
-IsLogBegun plan files samples log new = HoldSinks plan samples new × ((text : List ℕ) × IsLogOf plan files new text × IsFrontOf (new.file log) text)
+abbrev pub IsLogBegun : (workers : ℕ) → PlanValue → PlayFiles → List (List ℕ) → List ℕ → Outside → Type 0
+IsLogBegun workers plan files samples log new = HoldSinks plan samples new × ((text : List ℕ) × IsLogOf workers plan files new text × IsFrontOf (new.file log) text)
 
 -- there is a plan, and some of its sinks may have been opened
-pub record IsBegun (script log : List ℕ) (old new : Outside) : Type 0 where
+pub record IsBegun (workers : ℕ) (script log : List ℕ) (old new : Outside) : Type 0 where
   pub plan : PlanValue
   pub files : PlayFiles
   pub samples : List (List ℕ)
   pub is : IsPlanIn script log old plan files samples
   pub sinks : (place : ℕ) (name : List ℕ) → IsWriter plan.parts place name → IsKeptOrFront name (sink_text plan samples place) old new
-  pub log_is : (new.file log ≡ old.file log) ⊎ IsLogBegun plan files samples log new
+  pub log_is : (new.file log ≡ old.file log) ⊎ IsLogBegun workers plan files samples log new
   pub others : OthersAreKept plan.parts log old new
 
 -- no told name changed, or the play had begun
-abbrev pub IsLeft : List ℕ → List ℕ → Outside → Outside → Type 0
-IsLeft script log old new = (new.file ≡ old.file) ⊎ IsBegun script log old new
+abbrev pub IsLeft : (workers : ℕ) → List ℕ → List ℕ → Outside → Outside → Type 0
+IsLeft workers script log old new = (new.file ≡ old.file) ⊎ IsBegun workers script log old new

@@ -2,6 +2,8 @@ pub mod Files
 pub mod Worlds
 pub mod Asked
 pub mod Summaries
+pub mod Passes
+pub mod Gates
 pub mod Results
 pub mod Leaving
 pub mod Terms

@@ -1,4 +1,4 @@
--- What a play on one thread leaves that was done whole.
+-- What a play leaves that was done whole.
 use Rattle.std.specs.Prelude.{◌≡◌, ◌≢◌, ℕ, List, All, Some}
 use Rattle.outside_io.specs.Files.{Outside}
 use Rattle.il_machine.specs.World.{World}
@@ -14,6 +14,7 @@ use Rattle.play_log.specs.Naming.{IsNaming}
 use Rattle.play_log.specs.Scenes.{scene_of}
 use Rattle.play_result_laws.specs.Asked.{IsConducted, tuned}
 use Rattle.play_result_laws.specs.Files.{AreFiles, IsNoSink, IsWriter}
+use Rattle.play_result_laws.specs.Passes.{IsPassOf}
 use Rattle.play_result_laws.specs.Worlds.{IsEnding, IsOpening}
 
 -- the told file of the name is this script of a play, and this is its plan, fitted to its files
@@ -28,21 +29,21 @@ pub record IsPlanIn (script log : List ℕ) (old : Outside) (plan : PlanValue) (
   pub fit : IsFit plan
   pub files_are : AreFiles old plan.parts files samples
 
--- The text is that of entries of the thread that plays, and names them: from a world where the plan's play begins they lead to this
+-- The text is that of entries of the passes of so many workers, and names them: from a world where the plan's play begins they lead to this
 -- ending. What is asked by them is what a play asks for, in order and in time.
-pub record IsPlayLog (plan : PlanValue) (files : PlayFiles) (text : List ℕ) (ending : World) : Type 0 where
+pub record IsPlayLog (workers : ℕ) (plan : PlanValue) (files : PlayFiles) (text : List ℕ) (ending : World) : Type 0 where
   pub opening : World
   pub entries : List Entry
   pub opens : IsOpening plan files opening
   pub logged : IsLogged (scene_of plan.parts opening) entries text
   pub names : IsNaming (scene_of plan.parts opening) opening text entries ending
-  pub alone : All (λ entry. entry.pass ≡ 0) entries
+  pub made : All (IsPassOf workers) entries
   pub conducted : IsConducted (tuned plan files) (scene_of plan.parts opening).handles (steps_of entries)
 
--- the text is the log of a play of the plan, which leads to a world at its end
-pub record IsLogOf (plan : PlanValue) (files : PlayFiles) (new : Outside) (text : List ℕ) : Type 0 where
+-- the text is the log of a play of the plan by so many workers, which leads to a world at its end
+pub record IsLogOf (workers : ℕ) (plan : PlanValue) (files : PlayFiles) (new : Outside) (text : List ℕ) : Type 0 where
   pub ending : World
-  pub log : IsPlayLog plan files text ending
+  pub log : IsPlayLog workers plan files text ending
   pub ends : IsEnding plan new ending
 
 -- each sink's name holds its text of the plain function

@@ -1,4 +1,4 @@
-//! What a play on one thread leaves that was done whole: its files, its log and its summary, as definitions.
+//! What a play leaves that was done whole: its files, its log and its summary, as definitions.
 
 ghost use Rattle.std.specs.Prelude.{◌≡◌, ◌∷◌, ◌<◌, ◌^◌, ℕ, List, codes, length, Some};
 ghost use Rattle.outside_io.specs.Files.{Outside};
@@ -14,9 +14,9 @@ ghost use Rattle.play_result_laws.specs.Worlds.{IsOpening};
 
 /// The log of a play isn't `end` alone where the file of one of its sinks has a byte: its lines name the acts by which that was written.
 pub fn law_of_no_acts()
-    ensures { (plan : PlanValue) (files : PlayFiles) (new : Outside) (place byte : ℕ) (name bytes : List ℕ)
+    ensures { (workers : ℕ) (plan : PlanValue) (files : PlayFiles) (new : Outside) (place byte : ℕ) (name bytes : List ℕ)
         → IsWriter plan.parts place name → new.file name ≡ Some (byte ∷ bytes)
-        → IsLogOf plan files new (codes "end\n") → ⊥ }
+        → IsLogOf workers plan files new (codes "end\n") → ⊥ }
 {}
 
 /// From the world where a play begins a text names one list of acts at most, and these lead to one world.

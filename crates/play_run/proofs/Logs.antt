@@ -40,9 +40,9 @@ kept_names plan files log text ending K logged =
       ends = K.ends;
     }
 
-pub named_joins : (plan : PlanValue) (files : PlayFiles) (new : Outside) (text : List ℕ) (ending : World) → IsNamedTo plan files text ending → HaveWritten plan.parts new ending → IsLogOf plan files new text
+pub named_joins : (plan : PlanValue) (files : PlayFiles) (new : Outside) (text : List ℕ) (ending : World) → IsNamedTo plan files text ending → HaveWritten plan.parts new ending → IsLogOf 0 plan files new text
 named_joins plan files new text ending N written = record {
   ending = ending;
-  log = record { opening = N.opening; entries = N.entries; opens = N.opens; logged = N.logged; names = N.names; alone = N.alone; conducted = N.conducted };
+  log = record { opening = N.opening; entries = N.entries; opens = N.opens; logged = N.logged; names = N.names; made = N.alone; conducted = N.conducted };
   ends = record { played = N.ends; sinks = written };
 }

@@ -112,10 +112,10 @@ module _ {S K : Type 0} (reads : SourceGhosts S) (writes : SinkGhosts K) (plan :
       offers = are_offered reads writes plan given entries O
 
       pub run_whole : HasPlayedWith x given → LogsName → (log : LogValue) → KeepsLog x log → (text : List ℕ) → ((s : Scene) (history : List Entry) → Keeps s history log → IsLogged s history text)
-          → IsPlayedWhole plan given (seen reads writes entries) (seen reads writes now) text
+          → IsPlayedWhole 0 plan given (seen reads writes entries) (seen reads writes now) text
       run_whole (p, Y, over, with) names log keeps text logged =
           let f = Y.standing.files in
-          moved (λ y z. IsPlayedWhole y z (seen reads writes entries) (seen reads writes now) text) x.plan plan f given is_plan with
+          moved (λ y z. IsPlayedWhole 0 y z (seen reads writes entries) (seen reads writes now) text) x.plan plan f given is_plan with
           (is_whole reads writes first x entries now many_first many_last were_there are stayed written p Y over
           (moved IsReady plan x.plan given f (sym is_plan) (sym with) R)
           (moved (λ y z. AreOffered y z (offered reads.offset reads.size reads.told writes.told) entries) plan x.plan given f (sym is_plan) (sym with) offers)

@@ -147,11 +147,11 @@ module _ {S K : Type 0} (reads : SourceGhosts S) (writes : SinkGhosts K)
         )
 
     pub is_whole : (text : List ℕ) → IsNamedTo x.plan Y.standing.files text Y.standing.world
-        → IsPlayedWhole x.plan Y.standing.files (seen reads writes entries) (seen reads writes now) text
+        → IsPlayedWhole 0 x.plan Y.standing.files (seen reads writes entries) (seen reads writes now) text
     is_whole text N =
         record {
           ending = w;
-          log = record { opening = N.opening; entries = N.entries; opens = N.opens; logged = N.logged; names = N.names; alone = N.alone; conducted = N.conducted };
+          log = record { opening = N.opening; entries = N.entries; opens = N.opens; logged = N.logged; names = N.names; made = N.alone; conducted = N.conducted };
           ends = N.ends;
           took = took;
         }

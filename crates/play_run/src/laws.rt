@@ -18,5 +18,5 @@ pub fn law_of_play_logs()
     ensures names { (plan : PlanValue) (files : PlayFiles) (log : LogValue) (text : List ℕ) (ending : World) → IsKeptTo plan files log ending
         → ((scene : Scene) (history : List Entry) → Keeps scene history log → IsLogged scene history text) → IsNamedTo plan files text ending }
     ensures joins { (plan : PlanValue) (files : PlayFiles) (new : Outside) (text : List ℕ) (ending : World)
-        → IsNamedTo plan files text ending → HaveWritten plan.parts new ending → IsLogOf plan files new text }
+        → IsNamedTo plan files text ending → HaveWritten plan.parts new ending → IsLogOf 0 plan files new text }
 {}

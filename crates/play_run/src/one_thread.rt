@@ -50,6 +50,10 @@ fn text_of(log: Log) -> Result<LogText, RunFault>
 }
 
 impl<S: Source, K: Sink> Player<S, K> for OneThread {
+    ghost workers = { λ player. 0 };
+
+    ghost tells = { λ old new parts text. Unit {0} };
+
     fn run(
         &mut self,
         alloc: Global,

@@ -7,6 +7,7 @@ use Rattle.play_course.specs.Settling.{parts_of}
 use Rattle.play_course.specs.Sums.{line_value}
 use Rattle.omxrun.specs.Reports.{IsPrinted}
 use Rattle.omxrun.proofs.Absences.{undone-told}
+use Rattle.omxrun.proofs.Complete.{not-done}
 use Rattle.omxrun.proofs.Outcomes.{sinks-few}
 use Rattle.omxrun.proofs.play.play_read.Goals as goal
 
@@ -32,3 +33,9 @@ pub returns-in-Err-clause-played : goal.returns-in-Err-clause-played
 returns-in-Err-clause-played g c =
     let told = undone-told c.args.script.now c.args.log.now (g.M.Media.outside c.args.media.now) (g.M.Media.outside c.play_script.new.media) c.in-Err.undone c.in-Err.ensures.undone in
     (Err c.in-Err.undone, record { done = tt; unabsent = told; stand = tt; undone = c.in-Err.ensures.undone }, c.report.ensures.reported)
+
+pub returns-in-Ok-clause-told : goal.returns-in-Ok-clause-told
+returns-in-Ok-clause-told g c = λ ok tells. c.in-Ok.ensures.told tells
+
+pub returns-in-Err-clause-told : goal.returns-in-Err-clause-told
+returns-in-Err-clause-told g c = λ ok tells. absurd (not-done c.in-Err.undone _ _ _ _ _ c.report.result c.report.ensures.reported ok)

@@ -17,7 +17,7 @@ pub returns-in-None-clause-trace : goal.returns-in-None-clause-trace
 returns-in-None-clause-trace g c = λ script words. absurd (c.in-None.ensures.none (to_trace script) words)
 
 pub returns-in-None-clause-play : goal.returns-in-None-clause-play
-returns-in-None-clause-play g c = λ script log words. absurd (c.in-None.ensures.none (to_play script 0 log) words)
+returns-in-None-clause-play g c = λ script workers log asked. absurd (c.in-None.ensures.none (to_play script workers log) asked.0)
 
 pub returns-in-None-clause-make : goal.returns-in-None-clause-make
 returns-in-None-clause-make g c = λ seed frames folder words. absurd (c.in-None.ensures.none (to_make seed frames folder) words)
@@ -29,19 +29,19 @@ pub returns-in-None-clause-complete_trace : goal.returns-in-None-clause-complete
 returns-in-None-clause-complete_trace g c = λ script words none can. absurd (c.in-None.ensures.none (to_trace script) words)
 
 pub returns-in-None-clause-faulty : goal.returns-in-None-clause-faulty
-returns-in-None-clause-faulty g c = λ script log line fault words none has. absurd (c.in-None.ensures.none (to_play script 0 log) words)
+returns-in-None-clause-faulty g c = λ script workers log line fault asked none has. absurd (c.in-None.ensures.none (to_play script workers log) asked.0)
 
 pub returns-in-None-clause-unread : goal.returns-in-None-clause-unread
-returns-in-None-clause-unread g c = λ script log line why words none has. absurd (c.in-None.ensures.none (to_play script 0 log) words)
+returns-in-None-clause-unread g c = λ script workers log line why asked none has. absurd (c.in-None.ensures.none (to_play script workers log) asked.0)
 
 pub returns-in-None-clause-unplanned : goal.returns-in-None-clause-unplanned
-returns-in-None-clause-unplanned g c = λ script log why words none has. absurd (c.in-None.ensures.none (to_play script 0 log) words)
+returns-in-None-clause-unplanned g c = λ script workers log why asked none has. absurd (c.in-None.ensures.none (to_play script workers log) asked.0)
 
 pub returns-in-None-clause-misfitted : goal.returns-in-None-clause-misfitted
-returns-in-None-clause-misfitted g c = λ script log why words none has. absurd (c.in-None.ensures.none (to_play script 0 log) words)
+returns-in-None-clause-misfitted g c = λ script workers log why asked none has. absurd (c.in-None.ensures.none (to_play script workers log) asked.0)
 
 pub returns-in-None-clause-complete : goal.returns-in-None-clause-complete
-returns-in-None-clause-complete g c = λ script log words none can. absurd (c.in-None.ensures.none (to_play script 0 log) words)
+returns-in-None-clause-complete g c = λ script workers log asked none can. absurd (c.in-None.ensures.none (to_play script workers log) asked.0)
 
 pub returns-in-None-clause-complete_make : goal.returns-in-None-clause-complete_make
 returns-in-None-clause-complete_make g c = λ seed frames folder words none can. absurd (c.in-None.ensures.none (to_make seed frames folder) words)
@@ -82,8 +82,8 @@ returns-in-Some-clause-trace g c = λ script words.
     run-asked (map string_bytes c.args.words.now) (to_trace script) (g.M.Media.outside c.args.media.now) (g.M.Media.outside c.run_command.new.media) (g.O.Sink.told c.args.out.now) (g.O.Sink.told c.run_command.new.out) (g.O.Sink.faults c.args.out.now) (g.O.Sink.faults c.run_command.new.out) c.run_command.result (asked_by c.in-Some.command) c.in-Some.ensures.some c.run_command.ensures.run words
 
 pub returns-in-Some-clause-play : goal.returns-in-Some-clause-play
-returns-in-Some-clause-play g c = λ script log words.
-    (run-asked (map string_bytes c.args.words.now) (to_play script 0 log) (g.M.Media.outside c.args.media.now) (g.M.Media.outside c.run_command.new.media) (g.O.Sink.told c.args.out.now) (g.O.Sink.told c.run_command.new.out) (g.O.Sink.faults c.args.out.now) (g.O.Sink.faults c.run_command.new.out) c.run_command.result (asked_by c.in-Some.command) c.in-Some.ensures.some c.run_command.ensures.run words).0 refl
+returns-in-Some-clause-play g c = λ script workers log asked.
+    (run-asked (map string_bytes c.args.words.now) (to_play script workers log) (g.M.Media.outside c.args.media.now) (g.M.Media.outside c.run_command.new.media) (g.O.Sink.told c.args.out.now) (g.O.Sink.told c.run_command.new.out) (g.O.Sink.faults c.args.out.now) (g.O.Sink.faults c.run_command.new.out) c.run_command.result (asked_by c.in-Some.command) c.in-Some.ensures.some c.run_command.ensures.run asked.0).0 asked.1
 
 pub returns-in-Some-clause-make : goal.returns-in-Some-clause-make
 returns-in-Some-clause-make g c = λ seed frames folder words.
@@ -100,28 +100,28 @@ returns-in-Some-clause-complete_trace g c = λ script words none can.
     (run-asked (map string_bytes c.args.words.now) (to_trace script) (g.M.Media.outside c.args.media.now) (g.M.Media.outside c.run_command.new.media) (g.O.Sink.told c.args.out.now) (g.O.Sink.told c.run_command.new.out) (g.O.Sink.faults c.args.out.now) (g.O.Sink.faults c.run_command.new.out) c.run_command.result (asked_by c.in-Some.command) c.in-Some.ensures.some c.run_command.ensures.run words) none can
 
 pub returns-in-Some-clause-unread : goal.returns-in-Some-clause-unread
-returns-in-Some-clause-unread g c = λ script log line why words none has.
-    let played = (run-asked (map string_bytes c.args.words.now) (to_play script 0 log) (g.M.Media.outside c.args.media.now) (g.M.Media.outside c.run_command.new.media) (g.O.Sink.told c.args.out.now) (g.O.Sink.told c.run_command.new.out) (g.O.Sink.faults c.args.out.now) (g.O.Sink.faults c.run_command.new.out) c.run_command.result (asked_by c.in-Some.command) c.in-Some.ensures.some c.run_command.ensures.run words).0 refl in
+returns-in-Some-clause-unread g c = λ script workers log line why asked none has.
+    let played = (run-asked (map string_bytes c.args.words.now) (to_play script workers log) (g.M.Media.outside c.args.media.now) (g.M.Media.outside c.run_command.new.media) (g.O.Sink.told c.args.out.now) (g.O.Sink.told c.run_command.new.out) (g.O.Sink.faults c.args.out.now) (g.O.Sink.faults c.run_command.new.out) c.run_command.result (asked_by c.in-Some.command) c.in-Some.ensures.some c.run_command.ensures.run asked.0).0 asked.1 in
     unread c.one_play.ensures.same script log (g.M.Media.outside c.args.media.now) (g.M.Media.outside c.run_command.new.media) (g.O.Sink.faults c.args.out.now) (g.O.Sink.faults c.run_command.new.out) (g.O.Sink.told c.args.out.now) (g.O.Sink.told c.run_command.new.out) line why played.0 c.run_command.result played.1 played.2 none has
 
 pub returns-in-Some-clause-unplanned : goal.returns-in-Some-clause-unplanned
-returns-in-Some-clause-unplanned g c = λ script log why words none has.
-    let played = (run-asked (map string_bytes c.args.words.now) (to_play script 0 log) (g.M.Media.outside c.args.media.now) (g.M.Media.outside c.run_command.new.media) (g.O.Sink.told c.args.out.now) (g.O.Sink.told c.run_command.new.out) (g.O.Sink.faults c.args.out.now) (g.O.Sink.faults c.run_command.new.out) c.run_command.result (asked_by c.in-Some.command) c.in-Some.ensures.some c.run_command.ensures.run words).0 refl in
+returns-in-Some-clause-unplanned g c = λ script workers log why asked none has.
+    let played = (run-asked (map string_bytes c.args.words.now) (to_play script workers log) (g.M.Media.outside c.args.media.now) (g.M.Media.outside c.run_command.new.media) (g.O.Sink.told c.args.out.now) (g.O.Sink.told c.run_command.new.out) (g.O.Sink.faults c.args.out.now) (g.O.Sink.faults c.run_command.new.out) c.run_command.result (asked_by c.in-Some.command) c.in-Some.ensures.some c.run_command.ensures.run asked.0).0 asked.1 in
     unplanned c.one_play.ensures.same c.law_of_plans.ensures.planned c.law_of_plans.ensures.first script log (g.M.Media.outside c.args.media.now) (g.M.Media.outside c.run_command.new.media) (g.O.Sink.faults c.args.out.now) (g.O.Sink.faults c.run_command.new.out) (g.O.Sink.told c.args.out.now) (g.O.Sink.told c.run_command.new.out) why played.0 c.run_command.result played.1 played.2 none has
 
 pub returns-in-Some-clause-faulty : goal.returns-in-Some-clause-faulty
-returns-in-Some-clause-faulty g c = λ script log line fault words none has.
-    let played = (run-asked (map string_bytes c.args.words.now) (to_play script 0 log) (g.M.Media.outside c.args.media.now) (g.M.Media.outside c.run_command.new.media) (g.O.Sink.told c.args.out.now) (g.O.Sink.told c.run_command.new.out) (g.O.Sink.faults c.args.out.now) (g.O.Sink.faults c.run_command.new.out) c.run_command.result (asked_by c.in-Some.command) c.in-Some.ensures.some c.run_command.ensures.run words).0 refl in
+returns-in-Some-clause-faulty g c = λ script workers log line fault asked none has.
+    let played = (run-asked (map string_bytes c.args.words.now) (to_play script workers log) (g.M.Media.outside c.args.media.now) (g.M.Media.outside c.run_command.new.media) (g.O.Sink.told c.args.out.now) (g.O.Sink.told c.run_command.new.out) (g.O.Sink.faults c.args.out.now) (g.O.Sink.faults c.run_command.new.out) c.run_command.result (asked_by c.in-Some.command) c.in-Some.ensures.some c.run_command.ensures.run asked.0).0 asked.1 in
     faulty c.one_play.ensures.same c.one_answer.ensures.same c.law_of_plans.ensures.planned script log (g.M.Media.outside c.args.media.now) (g.M.Media.outside c.run_command.new.media) (g.O.Sink.faults c.args.out.now) (g.O.Sink.faults c.run_command.new.out) (g.O.Sink.told c.args.out.now) (g.O.Sink.told c.run_command.new.out) line fault played.0 c.run_command.result played.1 played.2 none has
 
 pub returns-in-Some-clause-misfitted : goal.returns-in-Some-clause-misfitted
-returns-in-Some-clause-misfitted g c = λ script log why words none has.
-    let played = (run-asked (map string_bytes c.args.words.now) (to_play script 0 log) (g.M.Media.outside c.args.media.now) (g.M.Media.outside c.run_command.new.media) (g.O.Sink.told c.args.out.now) (g.O.Sink.told c.run_command.new.out) (g.O.Sink.faults c.args.out.now) (g.O.Sink.faults c.run_command.new.out) c.run_command.result (asked_by c.in-Some.command) c.in-Some.ensures.some c.run_command.ensures.run words).0 refl in
+returns-in-Some-clause-misfitted g c = λ script workers log why asked none has.
+    let played = (run-asked (map string_bytes c.args.words.now) (to_play script workers log) (g.M.Media.outside c.args.media.now) (g.M.Media.outside c.run_command.new.media) (g.O.Sink.told c.args.out.now) (g.O.Sink.told c.run_command.new.out) (g.O.Sink.faults c.args.out.now) (g.O.Sink.faults c.run_command.new.out) c.run_command.result (asked_by c.in-Some.command) c.in-Some.ensures.some c.run_command.ensures.run asked.0).0 asked.1 in
     misfitted c.one_play.ensures.same c.one_answer.ensures.same c.law_of_plans.ensures.planned c.law_of_plans.ensures.fit c.law_of_plans.ensures.misfit script log (g.M.Media.outside c.args.media.now) (g.M.Media.outside c.run_command.new.media) (g.O.Sink.faults c.args.out.now) (g.O.Sink.faults c.run_command.new.out) (g.O.Sink.told c.args.out.now) (g.O.Sink.told c.run_command.new.out) why played.0 c.run_command.result played.1 played.2 none has
 
 pub returns-in-Some-clause-complete : goal.returns-in-Some-clause-complete
-returns-in-Some-clause-complete g c = λ script log words none has.
-    let played = (run-asked (map string_bytes c.args.words.now) (to_play script 0 log) (g.M.Media.outside c.args.media.now) (g.M.Media.outside c.run_command.new.media) (g.O.Sink.told c.args.out.now) (g.O.Sink.told c.run_command.new.out) (g.O.Sink.faults c.args.out.now) (g.O.Sink.faults c.run_command.new.out) c.run_command.result (asked_by c.in-Some.command) c.in-Some.ensures.some c.run_command.ensures.run words).0 refl in
+returns-in-Some-clause-complete g c = λ script workers log asked none has.
+    let played = (run-asked (map string_bytes c.args.words.now) (to_play script workers log) (g.M.Media.outside c.args.media.now) (g.M.Media.outside c.run_command.new.media) (g.O.Sink.told c.args.out.now) (g.O.Sink.told c.run_command.new.out) (g.O.Sink.faults c.args.out.now) (g.O.Sink.faults c.run_command.new.out) c.run_command.result (asked_by c.in-Some.command) c.in-Some.ensures.some c.run_command.ensures.run asked.0).0 asked.1 in
     complete c.one_play.ensures.same c.one_answer.ensures.same c.law_of_plans.ensures.planned script log (g.M.Media.outside c.args.media.now) (g.M.Media.outside c.run_command.new.media) (g.O.Sink.faults c.args.out.now) (g.O.Sink.faults c.run_command.new.out) (g.O.Sink.told c.args.out.now) (g.O.Sink.told c.run_command.new.out) played.0 c.run_command.result played.1 played.2 none has
 
 pub returns-in-Some-clause-complete_make : goal.returns-in-Some-clause-complete_make

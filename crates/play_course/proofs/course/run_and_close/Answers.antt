@@ -18,7 +18,7 @@ returns g c =
       closed = c.close_files-closed.result;
       reads = c.has_risen-reads.result;
       writes = c.has_risen-writes.result;
-      has_run = subst (λ (before : List (Option (PartFile _ _))). HasRun c.args.opened.plan (files_seen seen before) (files_seen seen c.run-ran.new.files) c.run-ran.result) c.as_mut_slice.ensures.value c.run-ran.ensures;
+      has_run = subst (λ (before : List (Option (PartFile _ _))). HasRun (g.P.Player.workers c.args.player.now) (g.P.Player.tells c.args.player.now c.run-ran.new.player) c.args.opened.plan (files_seen seen before) (files_seen seen c.run-ran.new.files) c.run-ran.result) c.as_mut_slice.ensures.value c.run-ran.ensures;
       closes = subst (λ (after : List (Option (PartFile _ _))). AreClosed (files_seen seen after) (g.M.Media.outside c.args.media.now) (g.M.Media.outside c.close_files-closed.new.media) c.close_files-closed.result) kept c.close_files-closed.ensures;
       few = omega (arith, c.read_faults-read_before.type_inv, c.read_faults-read_before.ensures);
       read = λ is. (let rose = c.has_risen-reads.ensures.risen is in omega (arith, rose, c.read_faults-read_before.ensures, c.read_faults.ensures));

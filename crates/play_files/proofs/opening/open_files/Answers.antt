@@ -23,7 +23,7 @@ memory_fault (Play units parts links) plan is = tt
 memory_fault (Trace units lines) plan is = absurd is
 
 unplanned : (script : Script) (plan : PlanValue) (old : Outside) → IsPlanOfScript script plan → IsUnopened script old old Faults.OutOfMemory
-unplanned script plan old is = inl (record { why = OutOfMemory; is = memory_fault script plan is; told = refl; still = still old })
+unplanned script plan old is = inl (record { why = OutOfMemory; is = memory_fault script plan is; told = refl; still = still old; unasked = refl })
 
 pub returns-in_default-clause-unopened : goal.returns-in_default-clause-unopened
 returns-in_default-clause-unopened g c = unplanned c.args.script.now c.in-Ok.plan (g.M.Media.outside c.args.media.now) c.in-Ok.ensures.plan
@@ -51,6 +51,7 @@ returns-in-Ok-open_planned-clause-opened g c =
       fit = W.fit;
       still = W.still;
       opened = W.opened;
+      asked = W.asked;
       ready = is_ready seen old new planned plan heads files W S;
       offered = are_offered seen old new planned plan heads files W S;
       files_are = are_files seen old new planned plan heads files W S;
@@ -79,7 +80,7 @@ returns-in-Err-open_planned-clause-unopened g c =
               place = A.place;
               heads = heads;
               before = have_heads seen files old planned.parts A.place heads A.read few;
-              met = record { part = (A.met).part; there = (A.met).there; name = (A.met).name; reads = (A.met).reads; refused = source_refused_later (A.met).part.line (A.met).name old mid new fault S (A.met).refused };
+              met = record { part = (A.met).part; there = (A.met).there; name = (A.met).name; reads = (A.met).reads; refused = source_refused_later (A.met).part.line (A.met).name old mid new fault S (A.met).refused; asked = λ n. c.close_files.ensures.openings ∙ (A.met).asked n };
             })
         | inr (inl A) ↦
             let S = sources_closed seen files old planned.parts (length planned.parts) heads A.read (omega arith) mid new c.close_files.result c.close_files.ensures in
@@ -92,6 +93,7 @@ returns-in-Err-open_planned-clause-unopened g c =
               is = A.is;
               told = A.told;
               still = still_then old mid new A.still S;
+              asked = c.close_files.ensures.openings ∙ A.asked;
             }))
         | inr (inr A) ↦
             let refused = (A.met).refused in
@@ -111,6 +113,7 @@ returns-in-Err-open_planned-clause-unopened g c =
               name = (A.met).name;
               writes = (A.met).writes;
               why = sink_fault_later (A.met).part.line (A.met).name old mid new fault c.close_files.ensures.goes_on refused.why;
+              asked = λ n. c.close_files.ensures.openings ∙ A.asked n;
               left = λ tells. emptied seen files old plan.parts plan.frames A.place heads A.opened R.0 R.1 own tells mid new c.close_files.result refused.files c.close_files.ensures;
             }))
       ],

@@ -1,15 +1,17 @@
-use Rattle.std.proofs.Common.{◌≡◌, ℕ, List, Option, length, slice_get, inl, inr, ap, subst, sym, ◌∙◌}
+use Rattle.std.proofs.Common.{◌≡◌, ℕ, ◌+◌, List, Option, length, take, slice_get, inl, inr, ap, subst, sym, ◌∙◌}
 use Rattle.std.specs.Vec.{vec_len, with_items}
 use Rattle.std.proofs.lemmas.List.{with_items_is}
 use Rattle.audio_parts.specs.declared.part_file.PartFile.{PartFile}
 use Rattle.script_lang.specs.declared.play_line.PartLine.{PartLine}
 use Rattle.wav_form.specs.declared.heads.WavHead.{WavHead}
 use Rattle.play_forms.specs.Plans.{IsFitted}
+use Rattle.play_files.specs.Asked.{HasAskedFor, read_names, written_names}
 use Rattle.play_files.specs.Opening.{AreOpen, AreRead, HaveSinks, IsSinkMet, IsSourceMet}
 use Rattle.play_files.specs.Seen.{file_seen}
+use Rattle.play_files.proofs.Asking.{asked_then}
 use Rattle.play_files.proofs.Fronts.{sink_refused_sooner, still_then}
 use Rattle.play_files.proofs.Openings.{open_of, sinks_free}
-use Rattle.play_files.proofs.Results.{err_then, ok_both}
+use Rattle.play_files.proofs.Results.{err_then, ok_three}
 use Rattle.play_files.proofs.opening.open_planned.Goals as goal
 
 pub returns-in-Err-clause-stopped : goal.returns-in-Err-clause-stopped
@@ -34,6 +36,7 @@ returns-in-Err-fit-clause-stopped g c =
       told = c.plan_fault.ensures;
       still = c.in-Ok.ensures.still;
       read = subst (λ (ps : List PartLine). AreRead seen old ps (length ps) c.open_sources.new.heads.items c.open_sources.new.files.items) c.parts.ensures c.in-Ok.ensures.read;
+      asked = subst (λ (ps : List PartLine). HasAskedFor old (g.M.Media.outside c.open_sources.new.media) (read_names ps)) c.parts.ensures c.in-Ok.ensures.asked;
     }))
 
 pub open_sinks-requires-clause-free : goal.open_sinks-requires-clause-free
@@ -56,7 +59,8 @@ returns-clause-whole g c =
     let fitted = subst (λ (hs : List WavHead). IsFitted c.args.plan.now hs c.fit.new.self) c.as_slice.ensures.value c.fit.ensures.fitted in
     let same : c.parts.result.now ≡ c.fit.new.self.parts = c.parts.ensures ∙ sym fitted.parts in
     let read = subst (λ (ps : List PartLine). AreRead seen old ps (length ps) heads c.open_sources.new.files.items) same c.in-Ok.ensures.read in
-    ok_both c.open_sinks.result _ _ _ c.open_sinks.ensures.still c.open_sinks.ensures.opened (λ still opened.
+    let asked_first = subst (λ (ps : List PartLine). HasAskedFor old mid (read_names ps)) same c.in-Ok.ensures.asked in
+    ok_three c.open_sinks.result _ _ _ _ c.open_sinks.ensures.still c.open_sinks.ensures.opened c.open_sinks.ensures.asked (λ still opened asked.
     (let have = subst (λ (before : List (Option (PartFile _ _))). HaveSinks seen mid c.fit.new.self.parts c.fit.new.self.frames (length c.fit.new.self.parts) before c.open_sinks.new.files) c.as_mut_slice.ensures.value
     (subst (λ (planned : List ℕ). HaveSinks seen mid c.fit.new.self.parts planned (length c.fit.new.self.parts) c.as_mut_slice.result.now c.open_sinks.new.files) c.frames.ensures
     (subst (λ (ps : List PartLine). HaveSinks seen mid ps c.frames.result.now (length ps) c.as_mut_slice.result.now c.open_sinks.new.files) c.parts-2.ensures opened)) in
@@ -67,6 +71,8 @@ returns-clause-whole g c =
       still = still_then old mid new c.in-Ok.ensures.still still;
       opened = subst (λ (after : List (Option (PartFile _ _))). AreOpen seen old c.fit.new.self.parts c.fit.new.self.frames (length c.fit.new.self.parts) heads after) (sym kept)
           (open_of seen old mid c.fit.new.self.parts c.fit.new.self.frames (length c.fit.new.self.parts) heads c.open_sources.new.files.items c.open_sinks.new.files c.in-Ok.ensures.still read have);
+      asked = asked_then old mid new (read_names c.fit.new.self.parts) (written_names c.fit.new.self.parts) asked_first
+          (subst (λ (ps : List PartLine). HasAskedFor mid new (written_names ps)) c.parts-2.ensures asked);
     }))
 
 pub returns-clause-stopped : goal.returns-clause-stopped
@@ -81,6 +87,7 @@ returns-clause-stopped g c =
     let fitted = subst (λ (hs : List WavHead). IsFitted c.args.plan.now hs c.fit.new.self) c.as_slice.ensures.value c.fit.ensures.fitted in
     let same : c.parts.result.now ≡ c.fit.new.self.parts = c.parts.ensures ∙ sym fitted.parts in
     let read = subst (λ (ps : List PartLine). AreRead seen old ps (length ps) heads c.open_sources.new.files.items) same c.in-Ok.ensures.read in
+    let asked_first = subst (λ (ps : List PartLine). HasAskedFor old mid (read_names ps)) same c.in-Ok.ensures.asked in
     err_then c.open_sinks.result _ _ c.open_sinks.ensures.met (λ fault met.
     (let have = subst (λ (before : List (Option (PartFile _ _))). HaveSinks seen mid c.fit.new.self.parts c.fit.new.self.frames met.0 before c.open_sinks.new.files) c.as_mut_slice.ensures.value
     (subst (λ (planned : List ℕ). HaveSinks seen mid c.fit.new.self.parts planned met.0 c.as_mut_slice.result.now c.open_sinks.new.files) c.frames.ensures
@@ -93,4 +100,6 @@ returns-clause-stopped g c =
       met = record { part = sink.part; there = sink.there; name = sink.name; writes = sink.writes; refused = sink_refused_sooner old mid c.in-Ok.ensures.still (sink.part).line sink.name new fault sink.refused };
       opened = subst (λ (after : List (Option (PartFile _ _))). AreOpen seen old c.fit.new.self.parts c.fit.new.self.frames met.0 heads after) (sym kept)
           (open_of seen old mid c.fit.new.self.parts c.fit.new.self.frames met.0 heads c.open_sources.new.files.items c.open_sinks.new.files c.in-Ok.ensures.still read have);
+      asked = λ n. asked_then old mid new (read_names c.fit.new.self.parts) (written_names (take (met.0 + 1) c.fit.new.self.parts)) asked_first
+          (subst (λ (ps : List PartLine). HasAskedFor mid new (written_names (take (met.0 + 1) ps))) c.parts-2.ensures (met.3 n));
     }))))

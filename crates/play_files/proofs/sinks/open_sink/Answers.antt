@@ -1,5 +1,7 @@
-use Rattle.std.proofs.Common.{Err, ap, subst, sym}
+use Rattle.std.proofs.Common.{◌≡◌, Err, ap, subst, sym, ◌∙◌}
 use Rattle.omx_types.specs.declared.fault.Fault.{Fault}
+use Rattle.outside_io.specs.declared.media.Refused.TheVariants as Refusals
+use Rattle.play_files.specs.Faults.{fault_of_sink}
 use Rattle.play_files.specs.Opening.{IsSinkRefused}
 use Rattle.play_files.proofs.Refusals.{sink_refused}
 use Rattle.play_files.proofs.sinks.open_sink.Goals as goal
@@ -13,3 +15,10 @@ returns-in-Err-clause-refused g c =
     (sink_refused c.args.line c.args.name.now old new c.in-Err.refused c.sink.ensures.goes_on c.sink.ensures.files
     (λ is. e.absent (ap Err is)) (λ is. e.absent_name (ap Err is)) (λ is. e.failed (ap Err is)) c.sink.ensures.read_faults
     (λ other. e.absences_stay (λ same. other (cc))))
+
+pub returns-in-Err-clause-asked : goal.returns-in-Err-clause-asked
+returns-in-Err-clause-asked g c =
+    λ n. c.in-Err.ensures.asked (λ same. (let is : c.in-Err.refused ≡ Refusals.OutOfMemory = cc in n (ap Err (c.sink_fault.ensures ∙ ap (fault_of_sink c.args.line) is))))
+
+pub returns-in-Ok-clause-asked : goal.returns-in-Ok-clause-asked
+returns-in-Ok-clause-asked g c = λ n. c.in-Ok.ensures.asked (λ never. cc)

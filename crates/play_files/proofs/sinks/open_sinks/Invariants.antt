@@ -1,3 +1,5 @@
+use Rattle.std.proofs.Common.{take}
+use Rattle.play_files.specs.Asked.{HasAskedFor, written_names}
 use Rattle.play_files.specs.Opening.{HaveSinks, IsStill}
 use Rattle.play_files.specs.Seen.{file_seen}
 use Rattle.play_files.proofs.sinks.open_sinks.Given as goal
@@ -5,5 +7,6 @@ use Rattle.play_files.proofs.sinks.open_sinks.Given as goal
 abbrev pub invariant-loop-place : goal.invariant-loop-place
 invariant-loop-place g l = record {
   still : IsStill (g.M.Media.outside l.fn.media) (g.M.Media.outside l.media);
+  asked : HasAskedFor (g.M.Media.outside l.fn.media) (g.M.Media.outside l.media) (written_names (take l.place l.parts));
   have : HaveSinks (file_seen g.M.Src.Source g.M.Snk.Sink) (g.M.Media.outside l.fn.media) l.parts l.planned l.place l.fn.files l.files;
 }

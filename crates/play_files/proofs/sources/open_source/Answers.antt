@@ -1,5 +1,7 @@
-use Rattle.std.proofs.Common.{Err, ap, subst, sym}
+use Rattle.std.proofs.Common.{◌≡◌, Err, ap, subst, sym, ◌∙◌}
 use Rattle.omx_types.specs.declared.fault.Fault.{Fault}
+use Rattle.outside_io.specs.declared.media.Refused.TheVariants as Refusals
+use Rattle.play_files.specs.Faults.{fault_of_source}
 use Rattle.play_files.specs.Opening.{IsSourceRefused}
 use Rattle.play_files.proofs.Heads.{head_refused}
 use Rattle.play_files.proofs.Refusals.{source_refused}
@@ -46,3 +48,13 @@ returns-in-Err-read_head-clause-refused g c =
       inside = e.asks_no_further;
       large = λ more. (let same = e.too_large more in cc);
     }))
+
+pub returns-in-Err-clause-asked : goal.returns-in-Err-clause-asked
+returns-in-Err-clause-asked g c =
+    λ n. c.in-Err.ensures.asked (λ same. (let is : c.in-Err.refused ≡ Refusals.OutOfMemory = cc in n (ap Err (c.source_fault.ensures ∙ ap (fault_of_source c.args.line) is))))
+
+pub returns-in-Err-read_head-clause-asked : goal.returns-in-Err-read_head-clause-asked
+returns-in-Err-read_head-clause-asked g c = λ n. c.close_source.ensures.openings ∙ c.in-Ok.ensures.asked (λ never. cc)
+
+pub returns-in-Ok-read_head-clause-asked : goal.returns-in-Ok-read_head-clause-asked
+returns-in-Ok-read_head-clause-asked g c = λ n. c.in-Ok.ensures.asked (λ never. cc)

@@ -34,7 +34,7 @@ returns-in-Ok-play-clause-same g c = files_same g.S.Source g.K.Sink c.args.plan 
 pub returns-in-Ok-play-clause-whole : goal.returns-in-Ok-play-clause-whole
 returns-in-Ok-play-clause-whole g c =
     when_ok c.end.result c.text_of.result
-    (λ text. (given : PlayFiles) → IsReady c.args.plan given → AreFilesOf c.args.plan given (seen g.S.Source g.K.Sink c.args.files.now) → IsPlayedWhole c.args.plan given (seen g.S.Source g.K.Sink c.args.files.now) (seen g.S.Source g.K.Sink c.end.new.files) text)
+    (λ text. (given : PlayFiles) → IsReady c.args.plan given → AreFilesOf c.args.plan given (seen g.S.Source g.K.Sink c.args.files.now) → IsPlayedWhole 0 c.args.plan given (seen g.S.Source g.K.Sink c.args.files.now) (seen g.S.Source g.K.Sink c.end.new.files) text)
     c.text_of.ensures.logged
     (λ text logged given R O.
     run_whole g.S.Source g.K.Sink c.args.plan c.args.files.now c.requires.ready c.in-Ok.playing c.play.new.self c.new.new.files c.end.new.files (c.in-Ok-play.ensures.plan ∙ c.in-Ok.ensures.plan) c.in-Ok.ensures.many c.end.ensures.many c.in-Ok.ensures.files c.end.ensures.files (λ n. (false, c.in-Ok-play.ensures.objects n)) c.end.ensures.written given R O (c.in-Ok-play.ensures.played given (c.in-Ok.ensures.begun given R (are_offered g.S.Source g.K.Sink c.args.plan given c.args.files.now O)))
