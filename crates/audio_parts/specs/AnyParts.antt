@@ -57,3 +57,7 @@ read_of _ = None
 abbrev pub written_of : {S K : Type 0} {s : _} {k : _} → AnyPart S K s k → Option (SinkFile K)
 written_of (Sink part) = part.file
 written_of _ = None
+
+-- the sink that it writes to
+abbrev pub sink_of : {S K : Type 0} {s : _} {k : _} → AnyPart S K s k → Option K
+sink_of part = option_map (λ it. it.sink) (written_of part)

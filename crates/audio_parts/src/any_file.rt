@@ -1,8 +1,8 @@
 //! The file of a part of any kind.
-ghost use Rattle.std.specs.Prelude.{◌≡◌, ◌*◌, false, None, Some, option_map, is_some, IfSome, MatchOption};
+ghost use Rattle.std.specs.Prelude.{◌≡◌, ◌*◌, false, None, Some, option_copied, option_map, is_some, IfSome, MatchOption};
 ghost use Rattle.std.specs.List.{AllByRecursion};
 ghost use Rattle.omx_types.specs.Formats.{frame_bytes_of};
-ghost use Rattle.audio_parts.specs.AnyParts.{MayAttach, OnFrom, OnTo, attached_of, file_of, read_of, written_of};
+ghost use Rattle.audio_parts.specs.AnyParts.{MayAttach, OnFrom, OnTo, attached_of, file_of, read_of, sink_of, written_of};
 ghost use Rattle.part_forms.specs.Files.{rest_of};
 ghost use Rattle.part_forms.specs.Kinds.{is_source};
 ghost use Rattle.audio_parts.specs.Kinds.{with_file};
@@ -87,6 +87,17 @@ impl<S: Source, K: Sink> AnyPart<S, K> {
             },
             AnyPart::Decoder(_) | AnyPart::Encoder(_) => None,
             AnyPart::Gain(_) | AnyPart::Mixer(_) | AnyPart::Splitter(_) => None,
+        }
+    }
+
+    /// The sink that a sink's part writes to, where it has a file.
+    pub fn sink(&self) -> Option<&K>
+        ensures sink { option_copied result ≡ sink_of self.now }
+        ensures kept { IfSome (sink_of self.now) (λ snk. ⟦<AnyPart<S, K> as Part>⟧.kept self.now ≡ K.told snk) }
+    {
+        match self {
+            AnyPart::Sink(part) => part.sink(),
+            _ => None,
         }
     }
 

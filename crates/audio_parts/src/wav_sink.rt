@@ -1,6 +1,6 @@
 //! The part of a WAV sink: its file comes and goes, and a step's frames are written to it.
 
-ghost use Rattle.std.specs.Prelude.{◌≡◌, ◌*◌, ◌≤◌, true, false, take, vec_len, IfOk, None, Some};
+ghost use Rattle.std.specs.Prelude.{◌≡◌, ◌*◌, ◌≤◌, true, false, take, vec_len, IfOk, None, Some, option_copied, option_map};
 ghost use Rattle.std.specs.Option.{ForSome};
 ghost use Rattle.omx_types.specs.Formats.{IsWithinLimits, frame_bytes_of};
 ghost use Rattle.audio_parts.specs.Causes.{WriteCause};
@@ -118,6 +118,16 @@ impl<K: Sink> WavSink<K> {
         ensures { result ≡ frame_bytes_of self.now.format }
     {
         self.format.frame_bytes() as usize
+    }
+
+    /// The sink that it writes to.
+    pub(crate) fn sink(&self) -> Option<&K>
+        ensures { option_copied result ≡ option_map (λ it. it.sink) self.now.file }
+    {
+        match &self.file {
+            Some(file) => Some(&file.sink),
+            None => None,
+        }
     }
 
     /// Its file, at its end.

@@ -58,6 +58,13 @@ impl<P: Part> Done<P> {
         self.fault
     }
 
+    /// The part, which has its file again.
+    pub fn part(&self) -> &P
+        ensures { result.now ≡ self.now.part }
+    {
+        &self.desk.part
+    }
+
     /// The part with the headers, and what the step came to; an announcement has no header and did no step.
     pub fn into_parts(self) -> (Box<Desk<P>>, Option<Brought>)
         ensures part { result.0.value.part ≡ self.part }
