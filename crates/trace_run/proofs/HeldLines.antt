@@ -38,9 +38,11 @@ use Rattle.trace_run.specs.Naming.{Moment, Names, after_handing, handle_in, hand
 use Rattle.trace_run.specs.Replying.{LineReply, Plain}
 use Rattle.trace_run.specs.Lines.{Entry, IsAct, IsNoAct, ActLine, EtbLine, Line, Answered, is_too_long, line_flags, taking, work_out}
 use Rattle.trace_run.specs.Standing.{Parts, IsNamed, IsSeated, HasMoment, Leads, LeadsTo, IsMoment}
-use Rattle.trace_run.specs.Works.{HeldWork, IsHeld, AreHeld, OnDesk, IsDeskMoment, HasDeskMoment, LeadsAll, LeadsAllTo, ClaimedSo, is_held_by, IsOutSomewhere, IsBroughtBack, FinishedSo}
+use Rattle.held_work_laws.specs.Places.{IsWorkless}
+use Rattle.held_work_laws.specs.Works.{HeldWork, IsHeld, IsOutSomewhere}
+use Rattle.trace_run.specs.Works.{AreHeld, OnDesk, IsDeskMoment, HasDeskMoment, LeadsAll, LeadsAllTo, ClaimedSo, is_held_by, IsBroughtBack, FinishedSo}
 use Rattle.trace_run.proofs.Ends.{and_some, named_more, seated_there}
-use Rattle.trace_run.proofs.Held.{AreWorkless, IsWorkless, all_claimed, all_finished, all_named, all_run}
+use Rattle.trace_run.proofs.Held.{AreWorkless, all_claimed, all_finished, all_named, all_run}
 use Rattle.trace_run.proofs.Handed.{when_some}
 use Rattle.trace_run.proofs.Invalidating.{handle_itself, named_there}
 use Rattle.trace_run.proofs.Lasting.{none_here}
@@ -182,7 +184,7 @@ module _ (kept : Parts) (at : Moment) (S : IsMoment kept at) where
       let seat = at_place (IsSeated kept.components) w.components p.0 c seated p.1 in
       let named : component_numbered (number_of c) w ≡ Some c = is_named (number_of c) w ∙ named_there_at 0 w.numbered p.0 w.components c (S.sound).rising p.1 in
       let out : has_work_out (number_of c) w ≡ true = ap (λ (q : Option Component). is_some (option_and_then (λ (d : Component). d.work) q)) named ∙ ap is_some o in
-      let a = H.whole (number_of c) out in
+      let a = (H.out).whole (number_of c) out in
       let x = and_some (slice_get works a.0) _ a.1 in
       let N = at_place (λ (y : HeldWork). IsNamed kept.components y.handle) works a.0 x.0 H.named x.1 in
       let same : (x.0).handle ≡ c.handle = one_handle (x.0).handle c.handle N seat.0.1 x.2 in
@@ -258,7 +260,7 @@ module _ (old : Parts) (works : List HeldWork) (h : Handle) (component : List �
       let w = at.world in
       let T = S.stood in
       let H = S.held in
-      let held = at_place (IsHeld w) works place x H.each there in
+      let held = at_place (IsHeld w) works place x (H.out).each there in
       let y = back w T.world held in
       let v = y.0 in
       let B = y.2 in
@@ -285,7 +287,7 @@ module _ (old : Parts) (works : List HeldWork) (h : Handle) (component : List �
             record {
               one = refl;
               component_is = B.component ∙ ap (λ (k : Handle). k.generation) (mine ∙ sym n);
-              whole = B.whole;
+              whole = B.fault_is;
               says = ap (λ (k : ℕ). Plain (texts.Finished k)) (sym B.frames_are);
             },
             refl,
@@ -327,7 +329,7 @@ pub out_somewhere : (kept : OnDesk) (place : ℕ) (x : HeldWork) → HasDeskMome
 out_somewhere kept place x S there =
     let T = S.stood in
     let w = S.at.world in
-    let held = at_place (IsHeld w) kept.works place x T.held.each there in
+    let held = at_place (IsHeld w) kept.works place x (T.held.out).each there in
     let N = at_place (λ (y : HeldWork). IsNamed (kept.parts).components y.handle) kept.works place x T.held.named there in
     record { world = w; stands = T.stood.world; sound = T.stood.sound; held = held; named = named_held kept.parts S.at T.stood x N held }
 
@@ -343,7 +345,7 @@ last_back old graph front x frames back S =
     let T = S.stood.stood in
     let H = S.stood.held in
     let there = push_last_there front x in
-    let y = back w T.world (at_place (IsHeld w) (front ++ x ∷ []) (length front) x H.each there) in
+    let y = back w T.world (at_place (IsHeld w) (front ++ x ∷ []) (length front) x (H.out).each there) in
     let v = y.0 in
     let B = y.2 in
     record {
@@ -376,6 +378,6 @@ none_held parts S =
       | inr (work, out) ↦
           let named : component_numbered (number_of c) w ≡ Some c = is_named (number_of c) w ∙ named_there_at 0 w.numbered i w.components c (T.sound).rising e in
           let there : has_work_out (number_of c) w ≡ true = ap (λ (q : Option Component). is_some (option_and_then (λ (d : Component). d.work) q)) named ∙ ap is_some out in
-          let a = (S.stood.held).whole (number_of c) there in
+          let a = (S.stood.held.out).whole (number_of c) there in
           absurd a.1
     ]))

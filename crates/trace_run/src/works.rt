@@ -1,6 +1,6 @@
 //! Works: the headers of a component go out for one step of its part, and come back from it.
 
-ghost use Rattle.std.specs.Prelude.{◌≡◌, ◌<◌, ℕ, length, position, slice_get, Some, IfErr, IfOk, IfSome, OnErr};
+ghost use Rattle.std.specs.Prelude.{◌≡◌, ◌<◌, ℕ, length, position, slice_get, None, Some, IfErr, IfOk, IfSome, OnErr};
 ghost use Rattle.part_api.specs.Terms.{Terms};
 ghost use Rattle.il_machine.specs.Whole.{Steps};
 ghost use Rattle.il_flow.specs.Steps.{shown};
@@ -9,7 +9,8 @@ ghost use Rattle.il_graph.specs.declared.claimed.Claimed.TheVariants as answers;
 ghost use Rattle.act_text.specs.declared.reply.TextReply.TheVariants.{Idle};
 ghost use Rattle.trace_run.specs.Replying.{claimed_reply};
 ghost use Rattle.trace_run.specs.Standing.{graph_kept};
-ghost use Rattle.trace_run.specs.Works.{HeldWork, is_held_by, ClaimedSo, FinishedSo, IsBroughtBack, IsOutSomewhere, IsRun};
+ghost use Rattle.held_work_laws.specs.Works.{HeldWork, IsOutSomewhere, IsRun};
+ghost use Rattle.trace_run.specs.Works.{is_held_by, ClaimedSo, FinishedSo, IsBroughtBack};
 
 use crate::OutOfMemory;
 use crate::client::TraceGraph;
@@ -27,7 +28,7 @@ pub struct TraceWork {
 
 impl Model for TraceWork {
     ghost use Rattle.il_flow.specs.Steps.{shown};
-    ghost use Rattle.trace_run.specs.Works.{HeldWork};
+    ghost use Rattle.held_work_laws.specs.Works.{HeldWork};
 
     ghost Value = { HeldWork };
 
@@ -116,8 +117,9 @@ pub fn bring_back(graph: &mut TraceGraph, held: TraceWork) -> u32
 
 /// Does the step of the work.
 fn run(held: TraceWork) -> Done<NoFile, NoFile>
-    ensures { IsRun held result (⟦<AnyPart<NoFile, NoFile> as Part>⟧.terms result.part) (⟦<AnyPart<NoFile, NoFile> as Part>⟧.failed result.part)
+    ensures run { IsRun held result (⟦<AnyPart<NoFile, NoFile> as Part>⟧.terms result.part) (⟦<AnyPart<NoFile, NoFile> as Part>⟧.failed result.part)
         (shown (⟦<AnyPart<NoFile, NoFile> as Part>⟧.left result.part) (⟦<AnyPart<NoFile, NoFile> as Part>⟧.rest result.part) (⟦<AnyPart<NoFile, NoFile> as Part>⟧.kept result.part) (⟦<AnyPart<NoFile, NoFile> as Part>⟧.writing result.part)) }
+    ensures whole { result.fault ≡ None }
 {
     let TraceWork { work } = held;
     work.run()

@@ -1,7 +1,8 @@
 use Rattle.std.proofs.Common.{◌≡◌, List, ◌++◌, ◌∷◌, [], length, refl, subst, arith}
 use Rattle.machine_laws.proofs.Every.{push_last_there}
 use Rattle.trace_run.specs.Standing.{graph_kept}
-use Rattle.trace_run.specs.Works.{HeldWork, HasDeskMoment, kept_with}
+use Rattle.held_work_laws.specs.Works.{HeldWork}
+use Rattle.trace_run.specs.Works.{HasDeskMoment, kept_with}
 use Rattle.trace_run.proofs.HeldLines.{last_back, out_somewhere}
 use Rattle.trace_run.proofs.closing.bring_all_back.Goals as goal
 

@@ -1,0 +1,5 @@
+pub mod Held
+pub mod Taken
+pub mod Listed
+pub mod Placed
+pub mod Returned

@@ -1,0 +1,3 @@
+pub mod Works
+pub mod Claims
+pub mod Places
