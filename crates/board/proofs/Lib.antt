@@ -17,5 +17,6 @@ pub mod OneRun
 pub mod Chaining
 pub mod Failing
 pub mod Faulting
+pub mod There
 pub mod Clientless
 pub mod Eventing

@@ -1,7 +1,12 @@
 -- The file of a component to which none comes in a history: the object that it had at first, read or written further, and what the faults of
 -- its steps show of it.
-use Rattle.std.specs.Prelude.{◌≡◌, ℕ, nat_eq, Bool, true, false, List, [], ◌∷◌, All, Option, Some, None, IfSome, slice_get, if◌then◌else◌}
+use Rattle.std.specs.Prelude.{◌≡◌, ℕ, nat_eq, Bool, true, false, List, [], ◌∷◌, All, Option, Some, None, IfSome, is_some, slice_get, if◌then◌else◌}
 use Rattle.omx_types.specs.declared.fault.PartFault.{PartFault}
+use Rattle.il_machine.specs.Acts as acts
+use Rattle.il_machine.specs.Run.{Run}
+use Rattle.il_machine.specs.Sound.{Sound}
+use Rattle.il_machine.specs.World.{World}
+use Rattle.history_laws.specs.Works.{has_work_out}
 use Rattle.audio_parts.specs.Objects.{Held}
 use Rattle.audio_parts.specs.declared.part_file.PartFile.{PartFile}
 use Rattle.il_graph.specs.Shown as graphs
@@ -12,6 +17,7 @@ use Rattle.graph_acts.specs.declared.act.Reply.{Reply}
 use Rattle.graph_acts.specs.Objects.{files_by, files_in}
 use Rattle.graph_acts.specs.Plain.{Sight}
 use Rattle.graph_acts.specs.Working.{IsFaulted, IsFurther}
+use Rattle.board.specs.Asking.{ArePlain}
 
 -- ---- faults
 
@@ -37,6 +43,13 @@ module _ {S K C : Type 0} where
   brings_file number (asks.Attach h file) = nat_eq number h.generation
   brings_file number _ = false
 
+  -- no component is made or freed, and no file comes
+  abbrev pub is_steady : Act S K C → Bool
+  is_steady (asks.GetHandle name client) = false
+  is_steady (asks.FreeHandle h) = false
+  is_steady (asks.Attach h file) = false
+  is_steady _ = true
+
 -- ---- files
 
 abbrev pub held_as : {S K : Type 0} → Bool → Option (PartFile S K) → Held S K
@@ -57,6 +70,12 @@ module _ {S K C : Type 0} (see : Sight S K C) where
   abbrev pub ShowTheirFaults : graphs.Shown S K C → List (Entry (Act S K C) (Reply S K C)) → Type 0
   ShowTheirFaults first log = (number : ℕ) → All (λ e. brings_file number e.act ≡ false) log → (file : PartFile S K) → files_by (files_in first) log number ≡ Some file
       → All (λ e. IfSome (fault_in number e.act) (λ fault. IsFaulted see.reads see.writes fault (held_as false (files_in first number)) (held_as true (Some file)))) log
+
+-- where no work is out before and after, no file is lost
+module _ {S K C : Type 0} (see : Sight S K C) where
+  abbrev pub LoseNone : graphs.Shown S K C → List (Entry (Act S K C) (Reply S K C)) → Type 0
+  LoseNone first log = (number : ℕ) (steps : List (acts.Act × acts.Reply)) (world after : World) → Sound world → ArePlain see log steps → Run world steps after → All (λ e. is_steady e.act ≡ true) log
+      → has_work_out number world ≡ false → has_work_out number after ≡ false → is_some (files_in first number) ≡ true → is_some (files_by (files_in first) log number) ≡ true
 
 module _ {S K C : Type 0} where
   -- the faults of a component have one place

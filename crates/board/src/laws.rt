@@ -12,7 +12,7 @@ ghost use Rattle.board.specs.declared.asked.Asked.{Asked};
 ghost use Rattle.board.specs.declared.asked.Told.{Told};
 ghost use Rattle.board.specs.declared.watched.Watched.{Watched};
 ghost use Rattle.board.specs.Asking.{ArePlain, bare_log};
-ghost use Rattle.board.specs.Files.{HaveTheirFiles, ShowTheirFaults, FailOnce};
+ghost use Rattle.board.specs.Files.{FailOnce, HaveTheirFiles, LoseNone, ShowTheirFaults};
 ghost use Rattle.board.specs.Histories.{Legal, MayAsk, graph_of};
 ghost use Rattle.board.specs.Notes.{GiveNoHeaders, HasNoClientHeaders};
 ghost use Rattle.board.specs.Together.{AreOneRun};
@@ -29,10 +29,12 @@ pub fn law_of_histories<S: Source, K: Sink, C: Client>()
 {}
 
 /// After a legal history in which no file comes to a component, its file in the graph is the object that it had at first, read or written
-/// further, and each fault that a step of it answered shows in the object. A component fails once.
+/// further, and each fault that a step of it answered shows in the object. A component fails once. Where no component is made or freed, a
+/// file that was there at first is there again once no work is out.
 pub fn law_of_files<S: Source, K: Sink, C: Client>()
     ensures files { (first : Watched S K C) (log : List (Entry (Asked S K C) (Told S K C))) → Legal (sight_of C.Client S.Source K.Sink) first log → HaveTheirFiles (sight_of C.Client S.Source K.Sink) (graph_of first) (bare_log log) }
     ensures faults { (first : Watched S K C) (log : List (Entry (Asked S K C) (Told S K C))) → Legal (sight_of C.Client S.Source K.Sink) first log → ShowTheirFaults (sight_of C.Client S.Source K.Sink) (graph_of first) (bare_log log) }
+    ensures there { (first : Watched S K C) (log : List (Entry (Asked S K C) (Told S K C))) → Legal (sight_of C.Client S.Source K.Sink) first log → LoseNone (sight_of C.Client S.Source K.Sink) (graph_of first) (bare_log log) }
     ensures once { (first : Watched S K C) (log : List (Entry (Asked S K C) (Told S K C))) → Legal (sight_of C.Client S.Source K.Sink) first log → FailOnce (bare_log log) }
 {}
 
