@@ -2,9 +2,11 @@
 #![tactic(auto)]
 
 mod client;
+mod playing;
 #[cfg(test)]
 mod tests;
 mod working;
 
 pub use client::deliver;
+pub use playing::copy_file;
 pub use working::work_once;
