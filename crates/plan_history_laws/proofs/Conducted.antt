@@ -13,7 +13,7 @@ use Rattle.play_log.specs.Entries.{is_unprinted}
 use Rattle.play_result_laws.specs.Asked.{Asking, BackToIdle, Disabling, Enabling, IsConducted, Retuning, ToExecuting, ToIdle, ToLoaded, acts_of, asked, askings, is_asked, is_unasked, sending}
 use Rattle.plan_history_laws.specs.Requests.{AreRequested, is_request, is_request_act, requests}
 
-unasked_no : (a : Act) (r : Reply) → is_unasked a r ≡ true → is_request_act a ≡ false
+pub unasked_no : (a : Act) (r : Reply) → is_unasked a r ≡ true → is_request_act a ≡ false
 unasked_no (acts.RunCommand h) r t = refl
 unasked_no (acts.Claim h) r t = refl
 unasked_no (acts.Finish done) r t = refl
@@ -60,11 +60,11 @@ kept_once (x ∷ xs) = either (is_unasked x.0 x.1)
     ap (λ (ys : List (Act × Reply)). cond (is_request x) (x ∷ ys) ys) (kept_once xs) ∙ ap (λ (b : Bool). requests (cond (not b) (x ∷ asked xs) (asked xs))) (sym f))
 
 module _ (s : Assembly) (handles : List Handle) where
-  all_sent : (state : State) (hs : List Handle) → AreAll (map (sending state) hs)
+  pub all_sent : (state : State) (hs : List Handle) → AreAll (map (sending state) hs)
   all_sent state [] = tt
   all_sent state (h ∷ hs) = (refl, refl, all_sent state hs)
 
-  all_acts : (one : Asking) → AreAll (acts_of s handles one)
+  pub all_acts : (one : Asking) → AreAll (acts_of s handles one)
   all_acts ToIdle = all_sent Idle handles
   all_acts ToExecuting = all_sent Executing handles
   all_acts BackToIdle = all_sent Idle handles

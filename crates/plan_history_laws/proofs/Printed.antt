@@ -114,7 +114,7 @@ DidSomething step = is_request step ≡ false → is_unasked step.0 step.1 ≡ t
 abbrev IsUnrefused : Entry → Type 0
 IsUnrefused entry = is_request (step_of entry) ≡ false → is_refused entry.reply ≡ false
 
-did : (w v : World) (a : Act) (r : Reply) → Step w a r v → is_unprinted r ≡ false → is_refused r ≡ false → is_request_act a ≡ false → is_unasked a r ≡ true
+pub did : (w v : World) (a : Act) (r : Reply) → Step w a r v → is_unprinted r ≡ false → is_refused r ≡ false → is_request_act a ≡ false → is_unasked a r ≡ true
 did w v (acts.RunCommand h) (acts.Acted (Ok acted.Did)) s p u n = refl
 did w v (acts.RunCommand h) (acts.Acted (Ok (acted.Idle why))) s p u n = absurd cc
 did w v (acts.RunCommand h) (acts.Acted (Err e)) s p u n = absurd cc
