@@ -1,0 +1,12 @@
+//! The thread that conducts a play by calls through a board.
+#![tactic(auto)]
+
+mod asking;
+mod changing;
+mod conducting;
+mod laws;
+mod link_ends;
+mod looking;
+
+pub use conducting::{ConductingPass, Round};
+pub use laws::law_of_halts;

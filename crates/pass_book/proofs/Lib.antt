@@ -1,0 +1,7 @@
+pub mod Calling
+pub mod Claimed
+pub mod Delivering
+pub mod Few
+pub mod Keeping
+pub mod Noted
+pub mod Telling

@@ -1,0 +1,7 @@
+use Rattle.std.proofs.Common.{◌≡◌}
+use Rattle.graph_acts.specs.Plain.{sight_of}
+use Rattle.play_worker.specs.Workers.{IsWorker}
+use Rattle.play_worker.proofs.worker.Worker.work.Given as goal
+
+abbrev pub invariant-loop : goal.invariant-loop
+invariant-loop g l = IsWorker g.G.Gate.counts (sight_of g.C.Client g.S.Source g.K.Sink) l.board l.seats l.self × (l.self.book.number ≡ l.fn.self.book.number)

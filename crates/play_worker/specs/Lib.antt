@@ -1,0 +1,5 @@
+pub mod Counts
+pub mod Failing
+pub mod Requests
+pub mod Stepping
+pub mod Workers
