@@ -1,2 +1,3 @@
 pub mod OneVerdict
+pub mod Passing
 pub mod Telling

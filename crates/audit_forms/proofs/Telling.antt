@@ -1,7 +1,6 @@
 -- What the lines of a log tell is what the acts that they name told.
-use Rattle.std.proofs.Common.{◌≡◌, ℕ, zero, suc, Bool, true, false, nat_eq, if◌then◌else◌, List, [], ◌∷◌, ◌++◌, slice_get, Option, Some, None, Ok, Err, refl, sym, ap, ◌∙◌, subst, eqb-true, eq-eqb}
+use Rattle.std.proofs.Common.{◌≡◌, ℕ, zero, suc, Bool, true, false, nat_eq, if◌then◌else◌, List, [], ◌∷◌, ◌++◌, slice_get, Option, Some, None, Ok, Err, refl, sym, ap, ◌∙◌, subst}
 use Rattle.std.specs.Str.{bytes_eq}
-use Rattle.std.proofs.lemmas.Slice.Eq.{bytes_eq-Decides}
 use Rattle.omx_types.specs.declared.command.Command.TheVariants.{StateSet, Flush, PortDisable, PortEnable, MarkBuffer}
 use Rattle.omx_types.specs.declared.command.Event.{Event}
 use Rattle.omx_types.specs.declared.command.Note.{Note}
@@ -24,7 +23,6 @@ use Rattle.act_text.specs.declared.reply.TextReply.{TextReply}
 use Rattle.act_text.specs.declared.reply.TextReply.TheVariants as texts
 use Rattle.act_text.specs.declared.text.ActText.{ActText}
 use Rattle.script_lang.specs.declared.play_line.PartLine.{PartLine}
-use Rattle.play_forms.proofs.Places.{either}
 use Rattle.play_forms.specs.Parts.{kind_of}
 use Rattle.play_log.specs.Entries.{Entry, steps_of}
 use Rattle.play_log.specs.Lines.{LogLine}
@@ -34,6 +32,7 @@ use Rattle.play_log.specs.Scenes.{HaveOwnNames, Scene}
 use Rattle.play_log.proofs.Players.{some_same}
 use Rattle.play_world_laws.specs.Telling.{progress_by}
 use Rattle.play_result_laws.specs.Asked.{told_by}
+use Rattle.play_result_laws.proofs.Claiming.{named_at}
 use Rattle.audit_forms.specs.Told.{HaveNumbers, heard_by, heard_line, nothing_told, told_after, told_more}
 
 -- ---- an act that tells nothing
@@ -84,22 +83,6 @@ abbrev heard_note : Option Note → Progress → Progress
 heard_note note p = progress_by (note_list note) p
 
 module _ (s : Scene) (own : HaveOwnNames s.parts) (numbers : HaveNumbers s) (place : ℕ) (part : PartLine) (there : slice_get s.parts place ≡ Some part) where
-  -- the name is that of the place exactly where the handle has its number
-  named_at : (component : List ℕ) (x : Of s component (λ other h. Unit {0})) → bytes_eq component part.name ≡ nat_eq (x.2).generation place
-  named_at component x = either (bytes_eq component part.name)
-      (λ t.
-      let same : component ≡ part.name = (bytes_eq-Decides component part.name).0 t in
-      let at : x.0 ≡ place = own x.0 place x.1 part (x.3).line there ((x.3).named ∙ same) in
-      t ∙ sym (eq-eqb (x.2).generation place (numbers x.0 x.2 (x.3).handle ∙ at)))
-      (λ f. f ∙ sym (either (nat_eq (x.2).generation place)
-      (λ t.
-      let at : x.0 ≡ place = sym (numbers x.0 x.2 (x.3).handle) ∙ eqb-true (x.2).generation place t in
-      let other : Some x.1 ≡ Some part = sym (x.3).line ∙ ap (slice_get s.parts) at ∙ there in
-      let same : component ≡ part.name = sym (x.3).named ∙ ap (λ (q : PartLine). q.name) (some_same x.1 part other) in
-      let yes : bytes_eq component part.name ≡ true = (bytes_eq-Decides component part.name).1 same in
-      let clash : true ≡ false = sym yes ∙ f in absurd cc)
-      (λ g. g)))
-
   heard_event : (mine : Bool) (event : Event) (p : Progress) → (if mine then moved_by event p else p) ≡ heard_note (if mine then Some (Told event) else None) p
   heard_event true event p = refl
   heard_event false event p = refl
@@ -127,7 +110,7 @@ module _ (s : Scene) (own : HaveOwnNames s.parts) (numbers : HaveNumbers s) (pla
       → heard_by part.name (lines.Take component) said p ≡ heard_note (note_for place a r) p
   take_heard w v component a said r p x step reply =
       let is : a ≡ acts.TakeNote x.2 = x.4 in
-      taken_heard w v component x.2 said r p (named_at component (x.0, x.1, x.2, x.3, tt)) (subst (λ (b : Act). Step w b r v) is step) (subst (λ (b : Act). SaysReply s said b r) is reply)
+      taken_heard w v component x.2 said r p (named_at s own numbers place part there component (x.0, x.1, x.2, x.3, tt)) (subst (λ (b : Act). Step w b r v) is step) (subst (λ (b : Act). SaysReply s said b r) is reply)
       ∙ ap (λ (b : Act). heard_note (note_for place b r) p) (sym is)
 
   other_heard : (t : TextAct) (a : Act) (said : TextReply) (r : Reply) (p : Progress) → ((component : List ℕ) → t ≡ lines.Take component → ⊥) → SaysAct s t a

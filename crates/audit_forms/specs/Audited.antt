@@ -41,8 +41,11 @@ pub record Moment : Type 0 where
 -- ---- one line
 
 -- a send, a drop, a setting or a tunnel is the next one
+abbrev pub ComesNext : PlanValue → List Progress → OrderValue → TextAct → OrderValue → Type 0
+ComesNext plan told order act next = ((is_asked act ≡ false) × (next ≡ order)) ⊎ ((is_asked act ≡ true) × Admits plan told order act next)
+
 abbrev pub IsNext : Case → Moment → TextAct → OrderValue → Type 0
-IsNext x at act next = ((is_asked act ≡ false) × (next ≡ at.order)) ⊎ ((is_asked act ≡ true) × Admits x.plan at.told at.order act next)
+IsNext x at act next = ComesNext x.plan at.told at.order act next
 
 -- the component of the name has its work, or its client object, out
 abbrev pub HasOut : Case → Moment → List ℕ → (Component → Type 0) → Type 0

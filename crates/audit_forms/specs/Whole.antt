@@ -4,9 +4,9 @@ use Rattle.outside_io.specs.Files.{Outside}
 use Rattle.il_machine.specs.World.{World}
 use Rattle.script_lang.specs.declared.play_line.PartLine.{PartLine}
 use Rattle.play_forms.specs.Plans.{PlanValue}
-use Rattle.play_plan_laws.specs.Assemblies.{PlayFiles}
+use Rattle.play_plan_laws.specs.Assemblies.{IsReady, PlayFiles}
 use Rattle.play_log.specs.Scenes.{scene_of}
-use Rattle.play_result_laws.specs.Files.{written_by}
+use Rattle.play_result_laws.specs.Files.{IsWriter, written_by}
 use Rattle.play_result_laws.specs.Results.{IsPlanIn}
 use Rattle.play_result_laws.specs.Worlds.{IsOpening}
 use Rattle.audit_order.specs.Steps.{nothing_asked}
@@ -35,12 +35,15 @@ pub record IsVerdict (outside : Outside) (plan : PlanValue) (files : PlayFiles) 
   pub opens : IsOpening plan files opening
   pub audits : IsVerdictFrom outside plan opening text verdict
 
--- The told file of the second name is a log with this verdict, by the script that the first one holds and the told files.
+-- The told file of the second name is a log with this verdict, by the script that the first one holds and the told files. The plan is ready
+-- for its files, and the name of each sink is among the told ones.
 pub record IsAudited (script log : List ℕ) (outside : Outside) (verdict : Verdict) : Type 0 where
   pub plan : PlanValue
   pub files : PlayFiles
   pub samples : List (List ℕ)
   pub is : IsPlanIn script log outside plan files samples
+  pub ready : IsReady plan files
+  pub sinks : (place : ℕ) (name : List ℕ) → IsWriter plan.parts place name → (told : List ℕ) × (outside.file name ≡ Some told)
   pub text : List ℕ
   pub held : outside.file log ≡ Some text
   pub verdict_is : IsVerdict outside plan files text verdict

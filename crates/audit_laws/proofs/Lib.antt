@@ -1,0 +1,15 @@
+pub mod Texts
+pub mod Told
+pub mod Links
+pub mod Likeness
+pub mod Asking
+pub mod Admitting
+pub mod Walking
+pub mod Opened
+pub mod Unmarked
+pub mod Playing
+pub mod Following
+pub mod Verdicts
+pub mod OneAudit
+pub mod Saying
+pub mod Granting
