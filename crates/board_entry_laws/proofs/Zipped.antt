@@ -14,7 +14,7 @@ use Rattle.graph_acts.specs.declared.act.Reply.{Reply}
 use Rattle.graph_acts.specs.Plain.{Sight}
 use Rattle.board.specs.Asking.{ArePlain, IsPlain}
 use Rattle.play_log.specs.Entries.{Entry as LogEntry, step_of, steps_of}
-use Rattle.plan_history_laws.specs.Passes.{own_steps}
+use Rattle.play_result_laws.specs.Passes.{own_steps}
 use Rattle.board_entry_laws.specs.Entries.{entries_of, log_entry}
 
 module _ {S K C : Type 0} (see : Sight S K C) where

@@ -9,7 +9,7 @@ ghost use Rattle.graph_acts.specs.declared.act.Reply.{Reply};
 ghost use Rattle.graph_acts.specs.Plain.{sight_of};
 ghost use Rattle.board.specs.Asking.{ArePlain, IsPlain};
 ghost use Rattle.play_log.specs.Entries.{Entry as LogEntry, steps_of};
-ghost use Rattle.plan_history_laws.specs.Passes.{own_steps};
+ghost use Rattle.play_result_laws.specs.Passes.{own_steps};
 ghost use Rattle.board_entry_laws.specs.Entries.{entries_of, log_entry};
 
 use note_queues::Client;

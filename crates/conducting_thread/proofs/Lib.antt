@@ -1,7 +1,6 @@
 pub mod Asked
 pub mod Knowing
 pub mod Lists
-pub mod Lost
 pub mod Passing
 pub mod Requests
 pub mod Rounds

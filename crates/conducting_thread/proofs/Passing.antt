@@ -1,5 +1,5 @@
 -- The pass that conducts, at first and behind a round.
-use Rattle.std.proofs.Common.{◌≡◌, ℕ, Bool, true, false, List, [], ◌∷◌, length, Option, refl, sym, ◌∙◌, ap, subst}
+use Rattle.std.proofs.Common.{◌≡◌, ℕ, Bool, true, false, List, [], ◌∷◌, length, Option, inl, inr, refl, sym, ◌∙◌, ap, subst}
 use Rattle.std.proofs.lemmas.List.Elements.{All-nil}
 use Rattle.il_machine.specs.declared.answer.Progress.{Progress}
 use Rattle.il_machine.specs.Acts as acts
@@ -11,20 +11,21 @@ use Rattle.conductor.specs.Hearing.{ConductorValue, heard}
 use Rattle.conductor.specs.Phases.{Conducts, has_failed, is_over}
 use Rattle.play_forms.specs.Plans.{PlanValue}
 use Rattle.play_plan_laws.specs.Assemblies.{PlayFiles}
-use Rattle.conducting_laws.specs.Rounds.{AreMade, IsConducting, begins, looks}
+use Rattle.play_result_laws.specs.Rounds.{AreMade, IsConducting, begins, looks}
 use Rattle.graph_acts.specs.Holding.{Clear}
 use Rattle.graph_acts.specs.Plain.{Sight}
 use Rattle.board.specs.declared.boards.Board.{Board}
 use Rattle.board.specs.Asking.{ArePlain, bare_log}
 use Rattle.board.specs.Boards.{own_calls, pass_view}
 use Rattle.pass_book.specs.declared.book.Book.{Book}
-use Rattle.pass_book.specs.declared.seat.Seat.{Seat}
+use Rattle.work_signs.specs.declared.seat.Seat.{Seat}
 use Rattle.pass_book.specs.Books.{IsBook}
 use Rattle.conducting_thread.specs.declared.conducting.ConductingPass.{ConductingPass}
+use Rattle.conducting_thread.specs.declared.conducting.Round.{Round}
 use Rattle.conducting_thread.specs.Asking.{AreAnswered, AreStepless, HasAsked, IsStepless, Keeps}
 use Rattle.conducting_thread.specs.Knowing.{KnowsPlan}
 use Rattle.conducting_thread.specs.Looking.{HasLost}
-use Rattle.conducting_thread.specs.Passes.{IsConductingPass, is_end}
+use Rattle.conducting_thread.specs.Passes.{GoesOnAfter, IsConductingPass, is_end, round_of}
 use Rattle.conducting_thread.specs.Seating.{handles_of}
 use Rattle.conducting_thread.proofs.Knowing.{knows_first}
 use Rattle.conducting_thread.proofs.Requests.{keeps_on}
@@ -37,6 +38,19 @@ stays_over value next (phases.Send state) e C = absurd cc
 stays_over value next (phases.Change component step) e C = absurd cc
 stays_over value next phases.Wait e C = absurd cc
 stays_over value next phases.Failed e C = absurd cc
+
+-- ---- what can follow a round
+
+module _ {S K C : Type 0} where
+  round_after : (value : ConductorValue) (phase : Phase) (p : ConductingPass S K C) → Conducts value phase p.conductor → p.ended ≡ is_end phase → p.refused ≡ false → GoesOnAfter (round_of phase) p
+  round_after value (phases.Send state) p C e r = (r, e)
+  round_after value (phases.Change component step) p C e r = (r, e)
+  round_after value phases.Wait p C e r = (r, e)
+  round_after value phases.Over p C e r = inl e
+  round_after value phases.Failed p C e r = inr (inr (subst (λ (v : ConductorValue). has_failed v.told ≡ true) (sym C.1) C.0, refl))
+
+  pub goes_after : (value : ConductorValue) (phase : Phase) (round : Round) (p : ConductingPass S K C) → Conducts value phase p.conductor → round ≡ round_of phase → p.ended ≡ is_end phase → p.refused ≡ false → GoesOnAfter round p
+  goes_after value phase round p C is e r = subst (λ (x : Round). GoesOnAfter x p) (sym is) (round_after value phase p C e r)
 
 module _ {S K C : Type 0} (see : Sight S K C) (b : Board S K C) (plan : PlanValue) (seats : List Seat) where
   still_clear : (k l : Book S K C) → Keeps see.progress b seats k l → Clear see (own_calls k.pass) → Clear see (own_calls l.pass)

@@ -13,17 +13,16 @@ use Rattle.conductor.specs.Hearing.{ConductorValue, heard}
 use Rattle.conductor.specs.Phases.{Conducts}
 use Rattle.play_forms.specs.Plans.{PlanValue}
 use Rattle.play_plan_laws.specs.Assemblies.{PlayFiles}
-use Rattle.conducting_laws.specs.Rounds.{AreMade, IsConducting, IsRefused, looks, round}
+use Rattle.play_result_laws.specs.Rounds.{AreMade, IsConducting, IsHalted, IsLostLook, IsRefused, looks, round}
 use Rattle.graph_acts.specs.declared.act.Act.{Act}
 use Rattle.graph_acts.specs.declared.act.Reply.{Reply}
 use Rattle.graph_acts.specs.Plain.{Sight}
 use Rattle.board.specs.Asking.{ArePlain}
 use Rattle.conducting_thread.specs.Asking.{HasAsked, IsAnsweredOtherwise}
-use Rattle.pass_book.specs.declared.seat.Seat.{Seat}
-use Rattle.conducting_thread.specs.Looking.{HasLost, IsLostLook}
+use Rattle.work_signs.specs.declared.seat.Seat.{Seat}
+use Rattle.conducting_thread.specs.Looking.{HasLost}
 use Rattle.conducting_thread.specs.Seating.{handles_of}
 use Rattle.conducting_thread.proofs.Lists.{one_more}
-use Rattle.conducting_thread.specs.Passes.{IsHalted}
 use Rattle.conducting_thread.proofs.Asked.{split}
 
 -- one look more

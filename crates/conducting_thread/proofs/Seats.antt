@@ -25,12 +25,12 @@ use Rattle.play_forms.proofs.Plainly.{givers_within}
 use Rattle.play_plan_laws.proofs.Links.{takers_within}
 use Rattle.play_plan_laws.specs.Assemblies.{PlayFiles, end_of}
 use Rattle.play_result_laws.specs.Asked.{acts_of, tuned}
-use Rattle.conducting_laws.specs.Rounds.{asking_by}
+use Rattle.play_result_laws.specs.Rounds.{asking_by}
 use Rattle.play_plan_laws.specs.Casting.{joint_of, no_joint}
 use Rattle.play_world_laws.proofs.Lists.{get_there}
 use Rattle.pass_book.specs.declared.quiet.QuietAct.{QuietAct}
 use Rattle.pass_book.specs.declared.quiet.QuietAct.TheVariants.{DropTunnel, SetupTunnel}
-use Rattle.pass_book.specs.declared.seat.Seat.{Seat}
+use Rattle.work_signs.specs.declared.seat.Seat.{Seat}
 use Rattle.pass_book.specs.Seats.{IsDefinition, IsSeated}
 use Rattle.conducting_thread.specs.Asking.{IsRequestOf, due}
 use Rattle.conducting_thread.specs.declared.link_ends.LinkEnds.{LinkEnds}

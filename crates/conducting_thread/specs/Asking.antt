@@ -18,7 +18,7 @@ use Rattle.pass_book.specs.declared.quiet.QuietAct.{QuietAct}
 use Rattle.pass_book.specs.declared.quiet.QuietAct.TheVariants as quiets
 use Rattle.pass_book.specs.declared.quiet.QuietReply.{QuietReply}
 use Rattle.pass_book.specs.declared.quiet.QuietReply.TheVariants as answers
-use Rattle.pass_book.specs.declared.seat.Seat.{Seat}
+use Rattle.work_signs.specs.declared.seat.Seat.{Seat}
 use Rattle.pass_book.specs.Books.{GoesOn}
 use Rattle.pass_book.specs.Moves.{HoldsAsBefore}
 use Rattle.pass_book.specs.Quiet.{IsQuietOfPlay}

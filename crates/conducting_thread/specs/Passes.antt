@@ -9,7 +9,7 @@ use Rattle.conductor.specs.Hearing.{ConductorValue}
 use Rattle.conductor.specs.Phases.{Conducts}
 use Rattle.play_forms.specs.Plans.{PlanValue}
 use Rattle.play_plan_laws.specs.Assemblies.{PlayFiles}
-use Rattle.conducting_laws.specs.Rounds.{IsConducting, IsRefused}
+use Rattle.play_result_laws.specs.Rounds.{IsConducting, IsHalted}
 use Rattle.graph_acts.specs.declared.act.Act.{Act}
 use Rattle.graph_acts.specs.declared.act.Reply.{Reply}
 use Rattle.graph_acts.specs.Holding.{Clear}
@@ -17,19 +17,14 @@ use Rattle.graph_acts.specs.Plain.{Sight}
 use Rattle.board.specs.declared.boards.Board.{Board}
 use Rattle.board.specs.Asking.{ArePlain}
 use Rattle.board.specs.Boards.{own_calls}
-use Rattle.pass_book.specs.declared.seat.Seat.{Seat}
+use Rattle.work_signs.specs.declared.seat.Seat.{Seat}
 use Rattle.pass_book.specs.Books.{IsBook}
 use Rattle.conducting_thread.specs.declared.conducting.ConductingPass.{ConductingPass}
 use Rattle.conducting_thread.specs.declared.conducting.Round.{Round}
 use Rattle.conducting_thread.specs.declared.conducting.Round.TheVariants.{Asks, Ends, Waits}
 use Rattle.conducting_thread.specs.Asking.{AreStepless}
 use Rattle.conducting_thread.specs.Knowing.{KnowsPlan}
-use Rattle.conducting_thread.specs.Looking.{IsLost}
 use Rattle.conducting_thread.specs.Seating.{handles_of}
-
--- one of its acts was answered as none of a play is
-abbrev pub IsHalted : PlanValue → PlayFiles → List Handle → List (acts.Act × acts.Reply) → Type 0
-IsHalted plan files handles own = IsRefused plan files handles own ⊎ IsLost plan files handles own
 
 -- the play is over
 abbrev pub is_end : Phase → Bool
@@ -42,6 +37,10 @@ round_of (Change component step) = Asks
 round_of Wait = Waits
 round_of Over = Ends
 round_of Failed = Ends
+
+-- why nothing more is asked: the play is over, an act was answered otherwise than those of a play are, or a component has told an error
+abbrev pub IsAtEnd : Bool → Bool → ConductorValue → Type 0
+IsAtEnd ended refused value = (ended ≡ true) ⊎ ((refused ≡ true) ⊎ Conducts value Failed value)
 
 module _ {S K C : Type 0} where
   -- By whatever acts and replies of the machine its calls stand for it has come to know so much, of the plan with any files: its acts look at
@@ -63,7 +62,7 @@ module _ {S K C : Type 0} where
     pub refused : p.refused ≡ true → HasHalted see plan (handles_of seats) (own_calls p.book.pass)
     pub ended : p.ended ≡ true → (p.refused ≡ false) × Conducts p.conductor Over p.conductor
 
-  -- unless nothing is asked any more, a round can follow
+  -- a round can follow, unless nothing is asked any more
   abbrev pub GoesOnAfter : Round → ConductingPass S K C → Type 0
-  GoesOnAfter Ends p = Unit {0}
+  GoesOnAfter Ends p = IsAtEnd p.ended p.refused p.conductor
   GoesOnAfter other p = (p.refused ≡ false) × (p.ended ≡ false)

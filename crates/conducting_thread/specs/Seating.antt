@@ -5,7 +5,7 @@ use Rattle.part_forms.specs.Kinds.{is_input}
 use Rattle.script_lang.specs.declared.play_line.PartLine.{PartLine}
 use Rattle.play_forms.specs.Parts.{kind_of}
 use Rattle.play_forms.specs.Plans.{PlanValue}
-use Rattle.pass_book.specs.declared.seat.Seat.{Seat}
+use Rattle.work_signs.specs.declared.seat.Seat.{Seat}
 
 abbrev pub handles_of : List Seat → List Handle
 handles_of seats = map (λ (seat : Seat). seat.handle) seats

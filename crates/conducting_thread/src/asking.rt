@@ -6,7 +6,7 @@ ghost use Rattle.graph_acts.specs.Plain.{sight_of};
 ghost use Rattle.board.specs.Boards.{own_calls};
 ghost use Rattle.pass_book.specs.Books.{IsBook};
 ghost use Rattle.conducting_thread.specs.Asking.{AreAnswered, IsRequestOf, Keeps, due, is_accepted};
-ghost use Rattle.pass_book.specs.declared.seat.Seat.{Seat};
+ghost use Rattle.work_signs.specs.declared.seat.Seat.{Seat};
 ghost use Rattle.pass_book.specs.Seats.{IsSeated};
 
 use crate::link_ends::handle_at;
@@ -14,8 +14,9 @@ use board::Board;
 use note_queues::Client;
 use omx_types::{Command, State, Supplier};
 use outside_io::{Sink, Source};
-use pass_book::{Book, QuietAct, QuietReply, Seat};
+use pass_book::{Book, QuietAct, QuietReply};
 use std::sync::Wait;
+use work_signs::Seat;
 
 /// Whether that is the answer which is due to a request.
 fn is_accepted(reply: QuietReply) -> bool

@@ -7,7 +7,7 @@ ghost use Rattle.conductor.specs.declared.phase.ChangeStep.TheVariants as steps;
 ghost use Rattle.conductor.specs.declared.phase.Phase.TheVariants as phases;
 ghost use Rattle.play_forms.specs.Plans.{IsValid};
 ghost use Rattle.play_plan_laws.specs.Assemblies.{PlayFiles};
-ghost use Rattle.conducting_laws.specs.Rounds.{AreMade};
+ghost use Rattle.play_result_laws.specs.Rounds.{AreMade};
 ghost use Rattle.graph_acts.specs.Plain.{sight_of};
 ghost use Rattle.board.specs.Boards.{own_calls};
 ghost use Rattle.pass_book.specs.Books.{IsBook};
@@ -23,9 +23,10 @@ use conductor::ChangeStep;
 use note_queues::Client;
 use omx_types::{Command, Param, ParamKey, PortDefinition, PortId, PortSel, Version};
 use outside_io::{Sink, Source};
-use pass_book::{Book, QuietAct, Seat};
+use pass_book::{Book, QuietAct};
 use std::sync::Wait;
 use stream_plan::Plan;
+use work_signs::Seat;
 
 fn disabling(port: PortId) -> QuietAct
     ensures { result ≡ disabling port }

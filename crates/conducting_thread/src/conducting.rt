@@ -8,15 +8,15 @@ ghost use Rattle.conductor.specs.Hearing.{heard};
 ghost use Rattle.conductor.specs.Phases.{Conducts};
 ghost use Rattle.play_forms.specs.Plans.{IsValid, PlanValue};
 ghost use Rattle.play_plan_laws.specs.Assemblies.{PlayFiles};
-ghost use Rattle.conducting_laws.specs.Rounds.{AreMade};
+ghost use Rattle.play_result_laws.specs.Rounds.{AreMade};
 ghost use Rattle.graph_acts.specs.Plain.{sight_of};
 ghost use Rattle.board.specs.declared.boards.Board.{Board};
 ghost use Rattle.board.specs.Boards.{own_calls, pass_view};
-ghost use Rattle.pass_book.specs.declared.seat.Seat.{Seat};
+ghost use Rattle.work_signs.specs.declared.seat.Seat.{Seat};
 ghost use Rattle.pass_book.specs.Books.{IsBook};
 ghost use Rattle.conducting_thread.specs.Asking.{AreAnswered, Keeps};
 ghost use Rattle.conducting_thread.specs.Knowing.{IsOfPlan, KnowsPlan};
-ghost use Rattle.conducting_thread.specs.Passes.{GoesOnAfter, IsConductingPass, is_end, round_of};
+ghost use Rattle.conducting_thread.specs.Passes.{GoesOnAfter, IsAtEnd, IsConductingPass, is_end, round_of};
 ghost use Rattle.conducting_thread.specs.Seating.{AreSeatsFor, handles_of};
 
 use crate::asking::send_all;
@@ -27,11 +27,11 @@ use conductor::{Conductor, Phase};
 use il_machine::Progress;
 use note_queues::Client;
 use outside_io::{Sink, Source};
-use pass_book::{Book, Seat};
+use pass_book::Book;
 use std::sync::Wait;
 use std::thread;
 use stream_plan::Plan;
-use work_signs::Signs;
+use work_signs::{Seat, Signs};
 
 /// The first pass of a board, with the conductor that hears what its looks show and says what it requests. It can't be let go, as its book
 /// can't.
@@ -42,6 +42,8 @@ pub struct ConductingPass<S: Source, K: Sink, C: Client> {
     pub ended: bool,
     /// An act was answered otherwise than those of a play are. Then nothing more is asked.
     pub refused: bool,
+    /// It was told to stop before the play had come to an end.
+    pub stopped: bool,
 }
 
 /// What a round has come to.
@@ -128,6 +130,7 @@ impl<S: Source, K: Sink, C: Client> ConductingPass<S, K, C> {
             conductor,
             ended: false,
             refused: false,
+            stopped: false,
         }
     }
 
@@ -179,11 +182,13 @@ impl<S: Source, K: Sink, C: Client> ConductingPass<S, K, C> {
         requires seats { AreSeatsFor plan.now seats.now }
         ensures pass { IsConductingPass (sight_of C.Client S.Source K.Sink) board.now plan.now seats.now self.new }
         ensures same { IsSamePass (pass_view self.old.book.pass) (pass_view self.new.book.pass) }
+        ensures ends { self.new.stopped ≡ false → IsAtEnd self.new.ended self.new.refused self.new.conductor }
     {
         let mut rests = 0u32;
         let mut heard = 0u64;
         for _ in rt.forever() {
             if signs.is_stopped() {
+                self.stopped = true;
                 return;
             }
             let notes = signs.notes();

@@ -4,9 +4,7 @@
 mod asking;
 mod changing;
 mod conducting;
-mod laws;
 mod link_ends;
 mod looking;
 
 pub use conducting::{ConductingPass, Round};
-pub use laws::law_of_halts;

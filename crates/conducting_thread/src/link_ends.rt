@@ -3,15 +3,15 @@
 ghost use Rattle.std.specs.Prelude.{◌≡◌, ◌<◌, length, slice_get, slice_index_or, Some};
 ghost use Rattle.play_forms.specs.Plans.{IsValid};
 ghost use Rattle.play_plan_laws.specs.Casting.{flow_of, joint_of, no_joint};
-ghost use Rattle.pass_book.specs.declared.seat.Seat.{Seat};
+ghost use Rattle.work_signs.specs.declared.seat.Seat.{Seat};
 ghost use Rattle.conducting_thread.specs.Changing.{ends_of};
 ghost use Rattle.conducting_thread.specs.Knowing.{GivesInto};
 ghost use Rattle.conducting_thread.specs.Seating.{AreSeatsFor, handles_of};
 
 use omx_types::{Handle, PortDefinition, PortId};
-use pass_book::Seat;
 use play_forms::{Flow, Joint};
 use stream_plan::Plan;
+use work_signs::Seat;
 
 /// The ports at both ends of a link, and what is set of each.
 #[derive(Clone, Copy)]

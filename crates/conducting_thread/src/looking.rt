@@ -3,11 +3,11 @@
 ghost use Rattle.std.specs.Prelude.{◌≡◌, ◌≤◌, [], ◌∷◌, All, length, take, IfSome, IfNone, Ok, Err};
 ghost use Rattle.omx_types.specs.declared.error.OmxError.{OmxError};
 ghost use Rattle.il_machine.specs.Acts as acts;
-ghost use Rattle.conducting_laws.specs.Rounds.{looks};
+ghost use Rattle.play_result_laws.specs.Rounds.{looks};
 ghost use Rattle.graph_acts.specs.Plain.{sight_of};
 ghost use Rattle.board.specs.Boards.{own_calls};
 ghost use Rattle.pass_book.specs.Books.{IsBook};
-ghost use Rattle.pass_book.specs.declared.seat.Seat.{Seat};
+ghost use Rattle.work_signs.specs.declared.seat.Seat.{Seat};
 ghost use Rattle.pass_book.specs.Seats.{IsSeated};
 ghost use Rattle.conducting_thread.specs.Asking.{HasAsked, Keeps};
 ghost use Rattle.conducting_thread.specs.Looking.{HasLost};
@@ -19,8 +19,9 @@ use il_machine::Progress;
 use note_queues::Client;
 use omx_types::Handle;
 use outside_io::{Sink, Source};
-use pass_book::{Book, QuietAct, QuietReply, Seat};
+use pass_book::{Book, QuietAct, QuietReply};
 use std::sync::Wait;
+use work_signs::Seat;
 
 /// What the component has told, if its client object is in. `None` where the look was refused.
 #[tactic(auto, using(crate::proofs::Requests::keeps_quiet))]

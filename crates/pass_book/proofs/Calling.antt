@@ -13,7 +13,7 @@ use Rattle.board.specs.Rows.{entries_of}
 use Rattle.pass_book.specs.declared.book.Book.{Book}
 use Rattle.pass_book.specs.declared.quiet.QuietAct.{QuietAct}
 use Rattle.pass_book.specs.declared.quiet.QuietReply.{QuietReply}
-use Rattle.pass_book.specs.declared.seat.Seat.{Seat}
+use Rattle.work_signs.specs.declared.seat.Seat.{Seat}
 use Rattle.pass_book.specs.Books.{GoesOn, IsBook, Made}
 use Rattle.pass_book.specs.Moves.{HoldsAsBefore}
 use Rattle.pass_book.specs.Quiet.{AreQuietReplies, IsQuietReply, act_of, reply_of}

@@ -9,7 +9,7 @@ use Rattle.graph_acts.specs.declared.act.Reply.{Reply}
 use Rattle.board.specs.declared.boards.Board.{Board}
 use Rattle.board.specs.Boards.{own_calls}
 use Rattle.pass_book.specs.declared.book.Book.{Book}
-use Rattle.pass_book.specs.declared.seat.Seat.{Seat}
+use Rattle.work_signs.specs.declared.seat.Seat.{Seat}
 use Rattle.pass_book.specs.Books.{GoesOn, Made}
 use Rattle.pass_book.specs.Moves.{HoldsAsBefore, IsMove, Moves}
 use Rattle.pass_book.proofs.Keeping.{goes_further}

@@ -1,5 +1,5 @@
 -- What is kept of a book over its calls.
-use Rattle.std.proofs.Common.{◌≡◌, ℕ, ◌+◌, ◌==◌, ◌<◌, List, [], ◌∷◌, ◌++◌, length, map, All, Bool, true, false, Option, Some, None, option_map, sym, refl, ap, ◌∙◌, subst, arith, eq-eqb, append_assoc, append-nil}
+use Rattle.std.proofs.Common.{◌≡◌, ℕ, ◌+◌, ◌==◌, ◌<◌, List, [], ◌∷◌, ◌++◌, length, map, All, Bool, true, false, Option, Some, None, IfSome, option_map, sym, refl, ap, ◌∙◌, subst, arith, eq-eqb, append_assoc, append-nil}
 use Rattle.std.proofs.lemmas.List.Elements.{All-append, All-cons, All-nil}
 use Rattle.il_machine.specs.declared.answer.Progress.{Progress}
 use Rattle.header_core.specs.BufferHeader.{BufferHeader}
@@ -23,7 +23,7 @@ use Rattle.board.specs.Boards.{IsCalled, IsOf, clients, clients_after, first_of,
 use Rattle.board.specs.Rows.{entries_of}
 use Rattle.board.proofs.Bare.{bare_snoc}
 use Rattle.play_log.specs.Choosing.{chosen, picked}
-use Rattle.play_log.specs.Lines.{LogLine}
+use Rattle.play_log.specs.Lines.{IsLogLine, LogLine}
 use Rattle.play_log.specs.Places.{IsKeptAt, PassLogValue, PlacedLine}
 use Rattle.pass_lines.specs.Passes.{lines_of}
 use Rattle.pass_lines.proofs.Choosing.{more, stays}
@@ -32,8 +32,8 @@ use Rattle.pass_book.specs.declared.quiet.QuietAct.{QuietAct}
 use Rattle.pass_book.specs.declared.quiet.QuietAct.TheVariants as quiets
 use Rattle.pass_book.specs.declared.quiet.QuietReply.{QuietReply}
 use Rattle.pass_book.specs.declared.quiet.QuietReply.TheVariants as answers
-use Rattle.pass_book.specs.declared.seat.Seat.{Seat}
-use Rattle.pass_book.specs.Books.{GoesOn, IsBook, IsFresh, IsRowAtRest, Made}
+use Rattle.work_signs.specs.declared.seat.Seat.{Seat}
+use Rattle.pass_book.specs.Books.{GoesOn, IsBook, IsFresh, IsPlayCall, IsRowAtRest, Made}
 use Rattle.pass_book.specs.Moves.{Adds, HoldsAsBefore, IsMove, Moves}
 use Rattle.pass_book.specs.Quiet.{AreQuietReplies, IsQuietOfPlay, IsQuietReply, act_of, reply_of}
 use Rattle.pass_book.specs.Saying.{line_by, line_of, said_of}
@@ -56,7 +56,7 @@ module _ {S K C : Type 0} where
         number = F.numbered;
         mine = F.unseen ∙ sym F.unmade;
         lines = λ whole. subst (λ l. IsKeptAt l log) (sym none) F.empty;
-        acts = subst (All (λ e. IsOfPlay seats e.act.act)) (sym F.unmade) (All-nil (λ (e : Entry (Asked S K C) (Told S K C)). IsOfPlay seats e.act.act));
+        acts = subst (All (IsPlayCall seats)) (sym F.unmade) (All-nil (λ (e : Entry (Asked S K C) (Told S K C)). IsPlayCall seats e));
         row = F.rests;
       } in
       subst (IsBook b seats) (λ i. record { pass = sym at i; number = sym num i; log = sym kept i; row = sym asks i }) made
@@ -81,11 +81,11 @@ module _ {S K C : Type 0} where
       )
 
   pub book_called : (see : Sight S K C) (hs : Bool) (b : Board S K C) (seats : List Seat) (k k' : Book S K C) (p : BoardPass S K C) (act : Act S K C) (place : ℕ) (reply : Reply S K C)
-      → IsBook b seats k → IsOfPlay seats act → IsOf b p → IsSamePass (pass_view k.pass) (pass_view p) → IsCalled see hs (first_of b) (pass_view k.pass) act place reply (pass_view p)
+      → IsBook b seats k → IsOfPlay seats act → IfSome (option_map (line_by k.number) (said_of (names_of seats) act reply)) IsLogLine → IsOf b p → IsSamePass (pass_view k.pass) (pass_view p) → IsCalled see hs (first_of b) (pass_view k.pass) act place reply (pass_view p)
       → k'.pass ≡ p → k'.number ≡ k.number → k'.row ≡ k.row → ((k'.log).broken ≡ false → (k.log).broken ≡ false)
       → ((lines : List PlacedLine) → IsKeptAt lines k.log → (k'.log).broken ≡ false → IsKeptAt (lines ++ picked (option_map (line_by k.number) (said_of (names_of seats) act reply)) place []) k'.log)
       → GoesOn b seats k k'
-  book_called see hs b seats k k' p act place reply is plays of same Q at num asks whole kept =
+  book_called see hs b seats k k' p act place reply is plays said of same Q at num asks whole kept =
       let t = subst (λ (q : BoardPass S K C). IsOf b q × IsSamePass (pass_view k.pass) (pass_view q) × IsCalled see hs (first_of b) (pass_view k.pass) act place reply (pass_view q)) (sym at) (of, same, Q) in
       let R = t.2 in
       let a : Asked S K C = record { act = act; reader = R.given } in
@@ -98,7 +98,7 @@ module _ {S K C : Type 0} where
           number = (t.1).0 ∙ (is.number ∙ sym num);
           mine = ap (λ (z : ℕ). own z w.seen) num ∙ c.0;
           lines = λ unbroken. subst (λ l. IsKeptAt l k'.log) (sym (ap (λ (z : ℕ). lines_of says z w.seen) num ∙ c.1)) (kept (lines_of says k.number v.seen) (is.lines (whole unbroken)) unbroken);
-          acts = subst (All (λ e. IsOfPlay seats e.act.act)) (sym R.called.added) (all_more (λ (e : Entry (Asked S K C) (Told S K C)). IsOfPlay seats e.act.act) v.mine (entry v.number a r) is.acts plays);
+          acts = subst (All (IsPlayCall seats)) (sym R.called.added) (all_more (λ (e : Entry (Asked S K C) (Told S K C)). IsPlayCall seats e) v.mine (entry v.number a r) is.acts (record { of_play = plays; said = subst (λ (n : ℕ). IfSome (option_map (line_by n) (said_of (names_of seats) act reply)) IsLogLine) (sym is.number) said }));
           row = subst (IsRowAtRest b) (sym asks) is.row;
         };
         number = num;
@@ -121,7 +121,7 @@ module _ {S K C : Type 0} where
         number = ap (λ v. v.number) at ∙ (is.number ∙ sym num);
         mine = (λ i. own (num i) (at i).seen) ∙ (is.mine ∙ ap (λ v. v.mine) (sym at));
         lines = subst (λ (l : List PlacedLine × PassLogValue). (l.1).broken ≡ false → IsKeptAt l.0 l.1) (λ i. (lines_of (line_of (names_of seats)) (sym num i) (sym at i).seen, sym kept i)) is.lines;
-        acts = subst (λ v. All (λ e. IsOfPlay seats e.act.act) v.mine) (sym at) is.acts;
+        acts = subst (λ v. All (IsPlayCall seats) v.mine) (sym at) is.acts;
         row = subst (IsRowAtRest b) (sym asks) is.row;
       };
       number = num;

@@ -4,4 +4,5 @@ pub mod Delivering
 pub mod Few
 pub mod Keeping
 pub mod Noted
+pub mod Seated
 pub mod Telling

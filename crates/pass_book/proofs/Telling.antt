@@ -40,10 +40,11 @@ use Rattle.part_api.specs.Terms.{Terms}
 use Rattle.play_log.specs.Entries.{is_unprinted, is_idle, is_without_note, is_without_work}
 use Rattle.play_log.specs.Saying.{Of, Says, SaysAct, SaysReply, did, key, or_error, took, claimed}
 use Rattle.play_log.specs.Scenes.{IsPlayer, Scene}
-use Rattle.pass_book.specs.declared.seat.Seat.{Seat}
+use Rattle.work_signs.specs.declared.seat.Seat.{Seat}
 use Rattle.pass_book.specs.Saying.{act_said, both_said, claim_said, command_said, event_said, frames_of, line_by, note_said, param_said, port_of, reply_said, said_of}
 use Rattle.pass_book.specs.Scenes.{AreSeatsIn, HasNoText, IsSeatIn}
 use Rattle.pass_book.specs.Seats.{IsDefinition, IsOfPlay, IsPlayCommand, IsSeated, name_in, names_of}
+use Rattle.pass_book.proofs.Seated.{seated_by}
 
 -- ---- acts
 
@@ -96,10 +97,10 @@ module _ (scene : Scene) (seats : List Seat) (there : AreSeatsIn scene seats) wh
     act_says (asks.RunCommand h) is = of_seated h _ is (λ part. refl)
     act_says (asks.TakeNote h) is = of_seated h _ is (λ part. refl)
     act_says (asks.EndNote h client) is = of_seated h _ is (λ part. (see.progress client, refl))
-    act_says (asks.Supply h port) is = of_seated h _ is (λ part. refl)
-    act_says (asks.Release h port) is = of_seated h _ is (λ part. refl)
-    act_says (asks.HandOver h port) is = of_seated h _ is (λ part. refl)
-    act_says (asks.HandBack h port) is = of_seated h _ is (λ part. refl)
+    act_says (asks.Supply h port) is = of_seated h _ (seated_by seats h port is) (λ part. refl)
+    act_says (asks.Release h port) is = of_seated h _ (seated_by seats h port is) (λ part. refl)
+    act_says (asks.HandOver h port) is = of_seated h _ (seated_by seats h port is) (λ part. refl)
+    act_says (asks.HandBack h port) is = of_seated h _ (seated_by seats h port is) (λ part. refl)
     act_says (asks.Claim h) is = of_seated h _ is (λ part. refl)
     act_says (asks.Finish done) is = of_number done.component.generation _ is (λ part h e. (seen_done u.took done, sym e, refl))
     act_says _ is = tt

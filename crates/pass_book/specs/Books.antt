@@ -1,5 +1,5 @@
 -- What holds of a pass with its lines.
-use Rattle.std.specs.Prelude.{◌≡◌, ℕ, ◌≤◌, ◌++◌, ◌∷◌, Bool, true, false, List, [], All}
+use Rattle.std.specs.Prelude.{◌≡◌, ℕ, ◌≤◌, ◌++◌, ◌∷◌, Bool, true, false, List, [], All, IfSome}
 use Rattle.turnstile.specs.declared.entry.Entry.{Entry}
 use Rattle.turnstile.specs.Entries.{entry, own}
 use Rattle.turnstile.specs.Passes.{IsSamePass}
@@ -9,15 +9,18 @@ use Rattle.graph_acts.specs.declared.act.Reply.{Reply}
 use Rattle.graph_acts.specs.declared.act.Reply.TheVariants as replies
 use Rattle.graph_acts.specs.Working.{claimed_work}
 use Rattle.graph_acts.specs.Lending.{OnLent}
+use Rattle.board.specs.declared.asked.Asked.{Asked}
+use Rattle.board.specs.declared.asked.Told.{Told}
 use Rattle.board.specs.declared.boards.Board.{Board}
 use Rattle.board.specs.declared.pass.BoardPass.{BoardPass}
 use Rattle.board.specs.declared.row.ActRow.{ActRow}
 use Rattle.board.specs.Boards.{IsOf, own_calls, pass_view}
 use Rattle.board.specs.Rows.{IsRowOf, acts, replies as told, room_of}
+use Rattle.play_log.specs.Lines.{IsLogLine}
 use Rattle.play_log.specs.Places.{IsKeptAt, PassLogValue}
 use Rattle.pass_lines.specs.Passes.{lines_of}
 use Rattle.pass_book.specs.declared.book.Book.{Book}
-use Rattle.pass_book.specs.declared.seat.Seat.{Seat}
+use Rattle.work_signs.specs.declared.seat.Seat.{Seat}
 use Rattle.pass_book.specs.Saying.{line_of}
 use Rattle.pass_book.specs.Seats.{IsOfPlay, names_of}
 
@@ -29,6 +32,11 @@ module _ {S K C : Type 0} where
     pub told : told row ≡ []
     pub room : 32 ≤ room_of row
 
+  -- a play makes the call, and its line, if it has one, is one of a log
+  pub record IsPlayCall (seats : List Seat) (e : Entry (Asked S K C) (Told S K C)) : Type 0 where
+    pub of_play : IsOfPlay seats e.act.act
+    pub said : IfSome (line_of (names_of seats) e) IsLogLine
+
   -- The pass has just its own calls among those that it has seen; each is one that a play makes. Unless a line was lost to want of memory,
   -- the log has the lines of these calls, at their places.
   pub record IsBook (b : Board S K C) (seats : List Seat) (k : Book S K C) : Type 0 where
@@ -36,7 +44,7 @@ module _ {S K C : Type 0} where
     pub number : (pass_view k.pass).number ≡ k.number
     pub mine : own k.number (pass_view k.pass).seen ≡ (pass_view k.pass).mine
     pub lines : (k.log).broken ≡ false → IsKeptAt (lines_of (line_of (names_of seats)) k.number (pass_view k.pass).seen) k.log
-    pub acts : All (λ e. IsOfPlay seats e.act.act) (pass_view k.pass).mine
+    pub acts : All (IsPlayCall seats) (pass_view k.pass).mine
     pub row : IsRowAtRest b k.row
 
   -- the same pass goes on, with its number

@@ -21,7 +21,7 @@ use Rattle.graph_acts.specs.Holding.{OutClient, took_client}
 use Rattle.board.specs.declared.boards.Board.{Board}
 use Rattle.board.specs.Boards.{clients, headers, own_calls, works}
 use Rattle.pass_book.specs.declared.book.Book.{Book}
-use Rattle.pass_book.specs.declared.seat.Seat.{Seat}
+use Rattle.work_signs.specs.declared.seat.Seat.{Seat}
 use Rattle.pass_book.specs.Books.{GoesOn, Made}
 
 -- the act was done

@@ -9,8 +9,8 @@ use Rattle.pass_book.specs.declared.quiet.QuietAct.{QuietAct}
 use Rattle.pass_book.specs.declared.quiet.QuietAct.TheVariants as quiets
 use Rattle.pass_book.specs.declared.quiet.QuietReply.{QuietReply}
 use Rattle.pass_book.specs.declared.quiet.QuietReply.TheVariants as answers
-use Rattle.pass_book.specs.declared.seat.Seat.{Seat}
-use Rattle.pass_book.specs.Seats.{IsDefinition, IsPlayCommand, IsSeated}
+use Rattle.work_signs.specs.declared.seat.Seat.{Seat}
+use Rattle.pass_book.specs.Seats.{IsDefinition, IsPlayCommand, IsSeated, IsSeatedAt}
 
 module _ {S K C : Type 0} where
   abbrev pub act_of : QuietAct → Act S K C
@@ -65,7 +65,7 @@ IsQuietOfPlay seats (quiets.SetupTunnel output input) = IsSeated seats output.ha
 IsQuietOfPlay seats (quiets.DropTunnel output input) = IsSeated seats output.handle × IsSeated seats input.handle
 IsQuietOfPlay seats (quiets.SendCommand h command) = IsSeated seats h × IsPlayCommand command
 IsQuietOfPlay seats (quiets.RunCommand h) = IsSeated seats h
-IsQuietOfPlay seats (quiets.Supply h port) = IsSeated seats h
-IsQuietOfPlay seats (quiets.Release h port) = IsSeated seats h
-IsQuietOfPlay seats (quiets.HandOver h port) = IsSeated seats h
-IsQuietOfPlay seats (quiets.HandBack h port) = IsSeated seats h
+IsQuietOfPlay seats (quiets.Supply h port) = IsSeatedAt seats h port
+IsQuietOfPlay seats (quiets.Release h port) = IsSeatedAt seats h port
+IsQuietOfPlay seats (quiets.HandOver h port) = IsSeatedAt seats h port
+IsQuietOfPlay seats (quiets.HandBack h port) = IsSeatedAt seats h port

@@ -9,7 +9,7 @@ use Rattle.part_forms.specs.Kinds.{is_input}
 use Rattle.script_lang.specs.declared.play_line.PartLine.{PartLine}
 use Rattle.play_forms.specs.Parts.{kind_of}
 use Rattle.play_log.specs.Scenes.{IsPlayer, Scene}
-use Rattle.pass_book.specs.declared.seat.Seat.{Seat}
+use Rattle.work_signs.specs.declared.seat.Seat.{Seat}
 
 -- the seat is that of the component of the place
 pub record IsSeatIn (scene : Scene) (place : ℕ) (s : Seat) : Type 0 where

@@ -9,7 +9,7 @@ use Rattle.omx_types.specs.declared.param.ParamKey.{ParamKey}
 use Rattle.graph_acts.specs.declared.act.Act.{Act}
 use Rattle.graph_acts.specs.declared.act.Act.TheVariants as asks
 use Rattle.play_log.specs.Saying.{key}
-use Rattle.pass_book.specs.declared.seat.Seat.{Seat}
+use Rattle.work_signs.specs.declared.seat.Seat.{Seat}
 
 -- the seat has its place by its component's number
 abbrev pub IsSeatOf : List Seat → Seat → Type 0
@@ -18,6 +18,10 @@ IsSeatOf seats s = slice_get seats (s.handle).generation ≡ Some s
 -- the handle is that of a component of the play
 abbrev pub IsSeated : List Seat → Handle → Type 0
 IsSeated seats h = (s : Seat) × (slice_get seats h.generation ≡ Some s) × (s.handle ≡ h)
+
+-- the handle is that of a component of the play, and it has that port
+abbrev pub IsSeatedAt : List Seat → Handle → ℕ → Type 0
+IsSeatedAt seats h port = (s : Seat) × (slice_get seats h.generation ≡ Some s) × (s.handle ≡ h) × (port < s.ports)
 
 abbrev pub name_in : Option Seat → List ℕ
 name_in (Some s) = s.name
@@ -50,10 +54,10 @@ module _ {S K C : Type 0} where
   IsOfPlay seats (asks.RunCommand h) = IsSeated seats h
   IsOfPlay seats (asks.TakeNote h) = IsSeated seats h
   IsOfPlay seats (asks.EndNote h client) = IsSeated seats h
-  IsOfPlay seats (asks.Supply h port) = IsSeated seats h
-  IsOfPlay seats (asks.Release h port) = IsSeated seats h
-  IsOfPlay seats (asks.HandOver h port) = IsSeated seats h
-  IsOfPlay seats (asks.HandBack h port) = IsSeated seats h
+  IsOfPlay seats (asks.Supply h port) = IsSeatedAt seats h port
+  IsOfPlay seats (asks.Release h port) = IsSeatedAt seats h port
+  IsOfPlay seats (asks.HandOver h port) = IsSeatedAt seats h port
+  IsOfPlay seats (asks.HandBack h port) = IsSeatedAt seats h port
   IsOfPlay seats (asks.Claim h) = IsSeated seats h
   IsOfPlay seats (asks.Finish done) = done.component.generation < length seats
   IsOfPlay seats _ = ⊥

@@ -8,9 +8,9 @@ ghost use Rattle.board.specs.declared.boards.Board.{Board};
 ghost use Rattle.board.specs.Boards.{own_calls, headers, clients, works, headers_after, clients_after, works_after};
 ghost use Rattle.board.specs.Rows.{entries_of};
 ghost use Rattle.play_log.specs.Choosing.{picked};
-ghost use Rattle.play_log.specs.Lines.{is_left_out};
+ghost use Rattle.play_log.specs.Lines.{IsLogLine, is_left_out};
 ghost use Rattle.play_log.specs.Places.{IsKeptAt, PlacedLine};
-ghost use Rattle.pass_book.specs.declared.seat.Seat.{Seat};
+ghost use Rattle.work_signs.specs.declared.seat.Seat.{Seat};
 ghost use Rattle.pass_book.specs.Books.{GoesOn, IsBook, IsFresh, IsItsWork, Made};
 ghost use Rattle.pass_book.specs.Moves.{HoldsAsBefore};
 ghost use Rattle.pass_book.specs.Quiet.{act_of, reply_of, AreQuietReplies, IsQuietOfPlay, IsQuietReply};
@@ -19,14 +19,14 @@ ghost use Rattle.pass_book.specs.Seats.{IsOfPlay};
 
 use crate::quiet::{QuietAct, QuietReply};
 use crate::saying::{act_said, frames_of, reply_said, slot_of};
-use crate::seat::Seat;
 use crate::still::stand_still;
-use act_text::{ActText, TextAct, TextReply};
+use act_text::{ActText, TextAct, TextReply, law_of_texts};
 use board::{Act, ActRow, Board, BoardPass, Reply};
 use note_queues::Client;
 use outside_io::{Sink, Source};
 use play_log::PassLog;
 use std::sync::Wait;
+use work_signs::Seat;
 
 // That act of the list.
 fn act_at(_seats: &[Seat], asked: &[QuietAct], i: usize) -> QuietAct
@@ -36,6 +36,13 @@ fn act_at(_seats: &[Seat], asked: &[QuietAct], i: usize) -> QuietAct
     ensures there { slice_get asked.now i ≡ Some result }
 {
     asked[i]
+}
+
+// The names of a text are names, and its numbers are within their limits.
+fn law_of_lines(pass: u8, said: &ActText)
+    ensures { IsLogLine (line_by pass said.now) }
+{
+    law_of_texts(said);
 }
 
 /// A pass of a board, its number, the lines of its own calls, and a row for acts that it asks together. It can't be let go, so that each
@@ -104,11 +111,13 @@ impl<S: Source, K: Sink, C: Client> Book<S, K, C> {
         requires printed { IfSome reply (λ r. is_left_out r ≡ false) }
         ensures same { (self.new.pass ≡ self.old.pass) × (self.new.number ≡ self.old.number) × (self.new.row ≡ self.old.row) }
         ensures broken { (self.new.log).broken ≡ false → (self.old.log).broken ≡ false }
+        ensures said { IfSome (option_map (line_by self.old.number) (both_said act reply)) IsLogLine }
         ensures lines { (lines : List PlacedLine) → IsKeptAt lines self.old.log → (self.new.log).broken ≡ false
             → IsKeptAt (lines ++ picked (option_map (line_by self.old.number) (both_said act reply)) place []) self.new.log }
     {
         if let (Some(act), Some(reply)) = (act, reply) {
             let said = ActText { act, reply };
+            law_of_lines(self.number, &said);
             let _ = self.log.entry(place, self.number, slot, &said);
         }
     }

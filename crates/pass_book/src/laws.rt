@@ -12,7 +12,7 @@ ghost use Rattle.board.specs.Asking.{IsPlain};
 ghost use Rattle.play_log.specs.Entries.{is_unprinted};
 ghost use Rattle.play_log.specs.Saying.{Says};
 ghost use Rattle.play_log.specs.Scenes.{Scene};
-ghost use Rattle.pass_book.specs.declared.seat.Seat.{Seat};
+ghost use Rattle.work_signs.specs.declared.seat.Seat.{Seat};
 ghost use Rattle.pass_book.specs.Saying.{line_by, said_of};
 ghost use Rattle.pass_book.specs.Scenes.{AreSeatsIn, HasNoText};
 ghost use Rattle.pass_book.specs.Seats.{IsOfPlay, names_of};

@@ -7,12 +7,10 @@ mod moving;
 mod noting;
 mod quiet;
 mod saying;
-mod seat;
 mod still;
 
 pub use book::Book;
 pub use laws::law_of_said_lines;
 pub use quiet::{QuietAct, QuietReply};
 pub use saying::SLOTS;
-pub use seat::Seat;
 pub use still::stand_still;

@@ -11,17 +11,17 @@ ghost use Rattle.graph_acts.specs.declared.act.Reply.TheVariants as replies;
 ghost use Rattle.board.specs.Boards.{first_of, seen_states, pass_view};
 ghost use Rattle.pass_book.specs.Books.{GoesOn, IsBook, Made};
 ghost use Rattle.pass_book.specs.Moves.{HoldsAsBefore, Moves, was_done};
-ghost use Rattle.pass_book.specs.Seats.{IsPlayCommand, IsSeated};
+ghost use Rattle.pass_book.specs.Seats.{IsPlayCommand, IsSeated, IsSeatedAt};
 
 use crate::book::Book;
 use crate::quiet::{QuietAct, QuietReply};
-use crate::seat::Seat;
 use board::Board;
 use il_machine::{Acted, Progress};
 use note_queues::Client;
 use omx_types::{Command, Handle, OmxError, State};
 use outside_io::{Sink, Source};
 use std::sync::Wait;
+use work_signs::Seat;
 
 fn was_done<E: Drop>(answer: Result<Acted, E>) -> bool
     ensures { result ≡ was_done answer }
@@ -61,7 +61,7 @@ impl<S: Source, K: Sink, C: Client> Book<S, K, C> {
         port: u32,
     ) -> bool
         requires book { IsBook board.now seats.now self.old }
-        requires seated { IsSeated seats.now h }
+        requires seated { IsSeatedAt seats.now h port }
         ensures moves { Moves C.progress board.now seats.now self.old self.new }
         ensures made { (answer : Result Acted CallError) × Made self.old (asks.Supply h port) (replies.Supply answer) self.new × (result ≡ was_done answer) }
     {
@@ -82,7 +82,7 @@ impl<S: Source, K: Sink, C: Client> Book<S, K, C> {
         port: u32,
     ) -> bool
         requires book { IsBook board.now seats.now self.old }
-        requires seated { IsSeated seats.now h }
+        requires seated { IsSeatedAt seats.now h port }
         ensures moves { Moves C.progress board.now seats.now self.old self.new }
         ensures made { (answer : Result Acted OmxError) × Made self.old (asks.Release h port) (replies.Release answer) self.new × (result ≡ was_done answer) }
     {
@@ -103,7 +103,7 @@ impl<S: Source, K: Sink, C: Client> Book<S, K, C> {
         port: u32,
     ) -> bool
         requires book { IsBook board.now seats.now self.old }
-        requires seated { IsSeated seats.now h }
+        requires seated { IsSeatedAt seats.now h port }
         ensures moves { Moves C.progress board.now seats.now self.old self.new }
         ensures made { (answer : Result Acted OmxError) × Made self.old (asks.HandOver h port) (replies.HandOver answer) self.new × (result ≡ was_done answer) }
     {
@@ -124,7 +124,7 @@ impl<S: Source, K: Sink, C: Client> Book<S, K, C> {
         port: u32,
     ) -> bool
         requires book { IsBook board.now seats.now self.old }
-        requires seated { IsSeated seats.now h }
+        requires seated { IsSeatedAt seats.now h port }
         ensures moves { Moves C.progress board.now seats.now self.old self.new }
         ensures made { (answer : Result Acted OmxError) × Made self.old (asks.HandBack h port) (replies.HandBack answer) self.new × (result ≡ was_done answer) }
     {

@@ -9,13 +9,13 @@ ghost use Rattle.pass_book.specs.Moves.{Delivered, Moves, out_client};
 ghost use Rattle.pass_book.specs.Seats.{IsSeated};
 
 use crate::book::Book;
-use crate::seat::Seat;
 use crate::still::stand_still;
 use board::{Act, Board, Reply};
 use note_queues::{Call, Client, Taken, Took};
 use omx_types::Handle;
 use outside_io::{Sink, Source};
 use std::sync::Wait;
+use work_signs::Seat;
 
 impl<S: Source, K: Sink, C: Client> Book<S, K, C> {
     /// Gives the client object back.

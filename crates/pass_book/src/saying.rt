@@ -6,13 +6,13 @@ ghost use Rattle.act_text.specs.declared.reply.TextReply.TheVariants as texts;
 ghost use Rattle.pass_book.specs.Saying.{act_said, claim_said, command_said, event_said, frames_of, note_said, param_said, port_named, port_of, reply_said};
 ghost use Rattle.pass_book.specs.Seats.{IsOfPlay, IsSeated, names_of};
 
-use crate::seat::Seat;
 use act_text::{Name, PortName, TextAct, TextReply};
 use board::{Act, LentClaim, Reply};
 use il_machine::Acted;
 use note_queues::{Taken, Took};
 use omx_types::{CallError, Command, Handle, OmxError, Param, PortId, Supplier};
 use outside_io::{Sink, Source};
+use work_signs::Seat;
 
 // The slots of a component's words: its claim and its finish, and four for each of so many ports.
 const PORTS: usize = 8;
@@ -80,6 +80,7 @@ fn param_said(port: PortName, value: Param) -> Option<TextAct>
 }
 
 /// What the act says.
+#[tactic(auto, using(crate::proofs::Seated::seated_by))]
 pub(crate) fn act_said<S: Source, K: Sink, C>(seats: &[Seat], act: &Act<S, K, C>) -> Option<TextAct>
     requires { IsOfPlay seats.now act.now }
     ensures { result ≡ act_said (names_of seats.now) act.now }

@@ -5,7 +5,8 @@ use Rattle.il_machine.specs.Acts.{Act, Reply}
 use Rattle.machine_laws.proofs.Finding.{either}
 use Rattle.play_log.specs.Entries.{Entry, step_of, steps_of}
 use Rattle.plan_history_laws.specs.Requests.{is_request, requests}
-use Rattle.plan_history_laws.specs.Passes.{RequestAlone, own_steps}
+use Rattle.play_result_laws.specs.Passes.{own_steps}
+use Rattle.plan_history_laws.specs.Passes.{RequestAlone}
 
 module _ (own : ℕ → Bool) where
   abbrev is_own : Entry → Bool

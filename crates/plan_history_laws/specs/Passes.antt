@@ -1,12 +1,8 @@
--- The entries of a history, by passes and as a log has them. What one conducts is that of some passes.
-use Rattle.std.specs.Prelude.{◌≡◌, ℕ, Bool, true, false, All, List, filter, slice_get, Some}
-use Rattle.il_machine.specs.Acts.{Act, Reply}
-use Rattle.play_log.specs.Entries.{Entry, is_unprinted, step_of, steps_of}
+-- The entries of a history, by passes and as a log has them.
+use Rattle.std.specs.Prelude.{◌≡◌, ℕ, Bool, true, false, All, List, slice_get, Some}
+use Rattle.play_log.specs.Entries.{Entry, is_unprinted, step_of}
 use Rattle.plan_history_laws.specs.Refused.{is_refused}
 use Rattle.plan_history_laws.specs.Requests.{is_request}
-
-abbrev pub own_steps : (ℕ → Bool) → List Entry → List (Act × Reply)
-own_steps own entries = steps_of (filter (λ entry. own entry.pass) entries)
 
 -- the other passes request nothing
 abbrev pub RequestAlone : (ℕ → Bool) → List Entry → Type 0

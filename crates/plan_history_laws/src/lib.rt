@@ -33,7 +33,8 @@ ghost use Rattle.play_history_laws.specs.Histories.{IsUnasked};
 ghost use Rattle.play_history_laws.specs.Order.{BothHaveTold, Cursor, EachHasHeard, HasHeardOf, IsChangeAct, IsSending, nothing_asked};
 ghost use Rattle.fault_history_laws.specs.Faults.{HasFaultStreams, IsFailedStep, IsFaulty, NoneFailed};
 ghost use Rattle.plan_history_laws.specs.Askings.{IsPlanHistory, asking_of, read_of};
-ghost use Rattle.plan_history_laws.specs.Passes.{AreUnrefused, HaveLines, RequestAlone, own_steps};
+ghost use Rattle.play_result_laws.specs.Passes.{own_steps};
+ghost use Rattle.plan_history_laws.specs.Passes.{AreUnrefused, HaveLines, RequestAlone};
 ghost use Rattle.plan_history_laws.specs.Refused.{IsAtPart, is_refused};
 ghost use Rattle.plan_history_laws.specs.Requests.{AreRequested, IsOrdered, is_request_act, requests};
 

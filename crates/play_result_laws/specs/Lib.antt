@@ -2,6 +2,7 @@ pub mod Files
 pub mod Worlds
 pub mod Asked
 pub mod Summaries
+pub mod Rounds
 pub mod Passes
 pub mod Gates
 pub mod Results

@@ -19,10 +19,10 @@ use Rattle.il_flow.specs.Works.{DoneOf}
 use Rattle.board.specs.declared.boards.Board.{Board}
 use Rattle.board.specs.Boards.{clients, clients_after, headers, headers_after, own_calls, pass_view, works, works_after}
 use Rattle.pass_book.specs.declared.book.Book.{Book}
-use Rattle.pass_book.specs.declared.seat.Seat.{Seat}
+use Rattle.work_signs.specs.declared.seat.Seat.{Seat}
 use Rattle.pass_book.specs.Books.{GoesOn, IsBook, IsItsWork, Made}
 use Rattle.pass_book.specs.Moves.{Moves}
-use Rattle.pass_book.specs.Seats.{IsSeatOf, IsSeated}
+use Rattle.pass_book.specs.Seats.{IsSeatOf, IsSeated, IsSeatedAt}
 use Rattle.play_worker.specs.declared.worker.Worker.{Worker}
 use Rattle.play_worker.specs.declared.failure.Failure.{Failure}
 use Rattle.play_worker.specs.Counts.{Counts, Raised, TellsZeros}
@@ -36,6 +36,10 @@ use Rattle.play_worker.proofs.Order.{no_some, tells_still, tells_worse}
 
 pub seated : (seats : List Seat) (s : Seat) → IsSeatOf seats s → IsSeated seats s.handle
 seated seats s is = (s, is, refl)
+
+-- at a port that the seat has
+pub seated_at : (seats : List Seat) (s : Seat) (port : ℕ) → IsSeatOf seats s → port < s.ports → IsSeatedAt seats s.handle port
+seated_at seats s port is below = (s, is, refl, below)
 
 pub seated_within : (seats : List Seat) (h : Handle) → IsSeated seats h → h.generation < length seats
 seated_within seats h is = slice_get_within seats h.generation is.0 is.1

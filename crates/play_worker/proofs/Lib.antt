@@ -1,3 +1,4 @@
 pub mod Order
 pub mod Calls
+pub mod Ending
 pub mod Keeping

@@ -1,4 +1,5 @@
 pub mod Counts
+pub mod Ending
 pub mod Failing
 pub mod Requests
 pub mod Stepping

@@ -4,7 +4,7 @@ use Rattle.graph_acts.specs.Holding.{Clear}
 use Rattle.graph_acts.specs.Plain.{Sight}
 use Rattle.board.specs.declared.boards.Board.{Board}
 use Rattle.board.specs.Boards.{own_calls, pass_view}
-use Rattle.pass_book.specs.declared.seat.Seat.{Seat}
+use Rattle.work_signs.specs.declared.seat.Seat.{Seat}
 use Rattle.pass_book.specs.Books.{IsBook}
 use Rattle.play_worker.specs.declared.worker.Worker.{Worker}
 use Rattle.play_worker.specs.Counts.{Counts}

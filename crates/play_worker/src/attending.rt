@@ -11,9 +11,8 @@ use crate::worker::Worker;
 use board::Board;
 use note_queues::Client;
 use outside_io::{Sink, Source};
-use pass_book::Seat;
 use std::sync::Wait;
-use work_signs::Signs;
+use work_signs::{Seat, Signs};
 
 impl<S: Source, K: Sink, C: Client, G: Gate> Worker<S, K, C, G> {
     /// All that can be done at a component. Whether anything was.

@@ -9,8 +9,10 @@ mod moving;
 mod rounds;
 mod seeing;
 mod stepping;
+mod stopping;
 mod worker;
 
 pub use failure::Failure;
 pub use gate::{Gate, NoGate};
+pub use stopping::Stopped;
 pub use worker::Worker;

@@ -9,12 +9,12 @@ ghost use Rattle.pass_book.specs.Seats.{IsSeatOf};
 use board::Board;
 use note_queues::Client;
 use outside_io::{Sink, Source};
-use pass_book::{Book, Seat};
+use pass_book::Book;
 use std::sync::Wait;
-use work_signs::Signs;
+use work_signs::{Seat, Signs};
 
 /// Each input gets or loses a header, as the component's state wants it: the input of a link supplies it. Whether one did.
-#[tactic(auto, using(pass_book::proofs::Keeping::moves_on, pass_book::proofs::Keeping::moves_itself, crate::proofs::Keeping::seated))]
+#[tactic(auto, using(pass_book::proofs::Keeping::moves_on, pass_book::proofs::Keeping::moves_itself, crate::proofs::Keeping::seated_at))]
 fn supply_all<S: Source, K: Sink, C: Client, R: Wait>(
     rt: &R,
     board: &Board<S, K, C>,
@@ -27,7 +27,7 @@ fn supply_all<S: Source, K: Sink, C: Client, R: Wait>(
     ensures { Moves C.progress board.now seats.now book.old book.new }
 {
     let h = seat.handle;
-    let inputs = seat.inputs;
+    let inputs = seat.inputs.min(seat.ports);
     let mut did = false;
     for port in 0..inputs {
         let supplied = book.supply(rt, board, seats, h, port);
@@ -38,7 +38,7 @@ fn supply_all<S: Source, K: Sink, C: Client, R: Wait>(
 }
 
 /// Each input hands a header over, and each output one back. Whether one did.
-#[tactic(auto, using(pass_book::proofs::Keeping::moves_on, pass_book::proofs::Keeping::moves_itself, crate::proofs::Keeping::seated))]
+#[tactic(auto, using(pass_book::proofs::Keeping::moves_on, pass_book::proofs::Keeping::moves_itself, crate::proofs::Keeping::seated_at))]
 fn hand_all<S: Source, K: Sink, C: Client, R: Wait>(
     rt: &R,
     board: &Board<S, K, C>,

@@ -1,17 +1,18 @@
 //! A worker's rounds over the components.
 
-ghost use Rattle.std.specs.Prelude.{◌≡◌, ◌≤◌, length};
+ghost use Rattle.std.specs.Prelude.{◌≡◌, ◌≤◌, IfOk, length, true};
 ghost use Rattle.graph_acts.specs.Plain.{sight_of};
+ghost use Rattle.play_worker.specs.Ending.{HasSeenEnd};
 ghost use Rattle.play_worker.specs.Workers.{IsWorker, AreNumbered};
 
 use crate::gate::Gate;
+use crate::stopping::{Stopped, stop_seen};
 use crate::worker::Worker;
 use board::Board;
 use note_queues::Client;
 use outside_io::{Sink, Source};
-use pass_book::Seat;
 use std::sync::Wait;
-use work_signs::Signs;
+use work_signs::{Seat, Signs};
 
 /// How often a worker that found nothing looks at the signs before it asks anew.
 const LOOKS: u32 = 1000;
@@ -53,6 +54,7 @@ impl<S: Source, K: Sink, C: Client, G: Gate> Worker<S, K, C, G> {
         requires seats { AreNumbered seats.now }
         requires few { length seats.now ≤ 32 }
         ensures worker { IsWorker G.counts (sight_of C.Client S.Source K.Sink) board.now seats.now self.new }
+        ensures ended { result ≡ true → HasSeenEnd seats.now self.new.book }
         ensures number { self.new.book.number ≡ self.old.book.number }
     {
         let heard = signs.rings();
@@ -66,25 +68,31 @@ impl<S: Source, K: Sink, C: Client, G: Gate> Worker<S, K, C, G> {
         false
     }
 
-    /// Rounds until each component was seen to have told Loaded or one to have told an error, or a thread wanted memory. A worker whose log
-    /// wants memory says so to the others.
-    pub fn work<R: Wait>(&mut self, rt: &R, board: &Board<S, K, C>, seats: &[Seat], signs: &Signs)
+    /// Rounds until the end of the play was seen, or that a thread wanted memory. A worker whose log wants memory says so to the others.
+    pub fn work<R: Wait>(
+        &mut self,
+        rt: &R,
+        board: &Board<S, K, C>,
+        seats: &[Seat],
+        signs: &Signs,
+    ) -> Result<(), Stopped>
         requires worker { IsWorker G.counts (sight_of C.Client S.Source K.Sink) board.now seats.now self.old }
         requires seats { AreNumbered seats.now }
         requires few { length seats.now ≤ 32 }
         ensures worker { IsWorker G.counts (sight_of C.Client S.Source K.Sink) board.now seats.now self.new }
+        ensures ended { IfOk result (λ _. HasSeenEnd seats.now self.new.book) }
         ensures number { self.new.book.number ≡ self.old.book.number }
     {
         for _ in rt.forever() {
-            if signs.is_stopped() {
-                return;
+            if let Some(stopped) = stop_seen(signs) {
+                return Err(stopped);
             }
             let ended = self.turn(rt, board, seats, signs);
             if !self.book.is_whole() {
                 signs.stop();
             }
             if ended {
-                return;
+                return Ok(());
             }
         }
         unreachable!()

@@ -21,8 +21,9 @@ use board::{Act, Board, DoneWork, LentClaim, LentWork, Reply};
 use note_queues::Client;
 use omx_types::Handle;
 use outside_io::{Sink, Source};
-use pass_book::{Book, Seat};
+use pass_book::Book;
 use std::sync::Wait;
+use work_signs::Seat;
 
 /// The component's place.
 #[tactic(auto, using(crate::proofs::Keeping::seated_within))]

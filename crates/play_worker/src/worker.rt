@@ -4,7 +4,7 @@ ghost use Rattle.std.specs.Prelude.{◌≡◌, ◌≤◌, [], List, None};
 ghost use Rattle.graph_acts.specs.Plain.{sight_of};
 ghost use Rattle.board.specs.declared.boards.Board.{Board};
 ghost use Rattle.board.specs.Boards.{own_calls};
-ghost use Rattle.pass_book.specs.declared.seat.Seat.{Seat};
+ghost use Rattle.work_signs.specs.declared.seat.Seat.{Seat};
 ghost use Rattle.pass_book.specs.Books.{IsBook};
 ghost use Rattle.play_worker.specs.Counts.{TellsZeros};
 ghost use Rattle.play_worker.specs.Workers.{IsWorker};

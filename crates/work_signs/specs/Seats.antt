@@ -5,7 +5,7 @@ use Rattle.part_forms.specs.Kinds.{inputs_of, ports_in}
 use Rattle.play_forms.specs.Parts.{kind_of}
 use Rattle.play_forms.specs.Plans.{PlanValue}
 use Rattle.script_lang.specs.declared.play_line.PartLine.{PartLine}
-use Rattle.pass_book.specs.declared.seat.Seat.{Seat}
+use Rattle.work_signs.specs.declared.seat.Seat.{Seat}
 
 abbrev pub inputs_by : PartLine → ℕ
 inputs_by part = inputs_of (kind_of part.form)

@@ -4,10 +4,11 @@
 
 use std::alloc::AllocError;
 
+mod seat;
 mod seats;
 mod signs;
 
-pub use pass_book::Seat;
+pub use seat::Seat;
 pub use seats::seats_of;
 pub use signs::Signs;
 

@@ -4,9 +4,9 @@ ghost use Rattle.std.specs.Prelude.{◌≡◌, ◌≤◌, length, IfOk};
 ghost use Rattle.work_signs.specs.Seats.{AreSeatsOf, inputs_by, ports_by};
 
 use crate::OutOfMemory;
+use crate::seat::Seat;
 use omx_types::Handle;
 use param_store::{inputs, outputs};
-use pass_book::Seat;
 use play_forms::Joint;
 use script_lang::PartLine;
 use std::alloc::Global;

@@ -19,12 +19,12 @@ use Rattle.play_plan_laws.specs.Assemblies.{PlayFiles}
 use Rattle.play_result_laws.specs.Asked.{AreLateLinks, acts_of, askings, tuned}
 use Rattle.play_history_laws.specs.Order.{Cursor}
 use Rattle.plan_history_laws.specs.Askings.{IsPlanHistory}
-use Rattle.plan_history_laws.specs.Passes.{own_steps}
+use Rattle.play_result_laws.specs.Passes.{own_steps}
 use Rattle.plan_history_laws.specs.Requests.{AreRequested, IsOrdered, requests}
 use Rattle.plan_history_laws.proofs.Askings.{link_is, many}
 use Rattle.plan_history_laws.proofs.Ordered.{history_ordered}
-use Rattle.conducting_laws.specs.Rounds.{IsConducting}
-use Rattle.conducting_laws.proofs.Rounds.{conducted_requests}
+use Rattle.play_result_laws.specs.Rounds.{IsConducting}
+use Rattle.worked_play_laws.proofs.Rounds.{conducted_requests}
 use Rattle.worked_play_laws.specs.Worked.{IsWorked, conducts}
 
 nothing_left : (xs ys : List (Act × Reply)) → xs ++ ys ≡ [] → ys ≡ []

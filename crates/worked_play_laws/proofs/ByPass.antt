@@ -15,12 +15,13 @@ use Rattle.play_forms.specs.Plans.{PlanValue}
 use Rattle.play_log.specs.Entries.{Entry, is_unprinted, printed, step_of, steps_of}
 use Rattle.play_plan_laws.specs.Assemblies.{PlayFiles}
 use Rattle.play_result_laws.specs.Asked.{acts_of, is_unasked, sending, tuned}
-use Rattle.plan_history_laws.specs.Passes.{AreUnrefused, RequestAlone, own_steps}
+use Rattle.play_result_laws.specs.Passes.{own_steps}
+use Rattle.plan_history_laws.specs.Passes.{AreUnrefused, RequestAlone}
 use Rattle.plan_history_laws.specs.Refused.{is_refused}
 use Rattle.plan_history_laws.specs.Requests.{is_request}
 use Rattle.plan_history_laws.proofs.Conducted.{AreAll, all_acts, all_sent, unasked_no}
 use Rattle.plan_history_laws.proofs.Printed.{did}
-use Rattle.conducting_laws.specs.Rounds.{AreMade, IsConducting, asking_by, begins, looks, round}
+use Rattle.play_result_laws.specs.Rounds.{AreMade, IsConducting, asking_by, begins, looks, round}
 use Rattle.worked_play_laws.specs.Worked.{IsByPass, conducts}
 
 -- a look, or a request

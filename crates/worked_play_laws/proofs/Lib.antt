@@ -1,3 +1,12 @@
+pub mod Looking
+pub mod Walking
+pub mod Knowing
+pub mod Asking
+pub mod Seeing
+pub mod Sending
+pub mod Changing
+pub mod Rounds
+pub mod Lost
 pub mod Asked
 pub mod Unrefused
 pub mod ByPass

@@ -2,6 +2,8 @@
 //! the whole play where the one who conducts says that all is over. Stated on functions that do nothing; the player by workers stands on them.
 #![tactic(auto)]
 
+mod conducting;
+
 ghost use Rattle.std.specs.Prelude.{All, List, false, true, ◌<◌, ◌≡◌, ℕ};
 ghost use Rattle.omx_types.specs.declared.handle.Handle.{Handle};
 ghost use Rattle.il_machine.specs.Sound.{Sound};
@@ -25,9 +27,12 @@ ghost use Rattle.play_result_laws.specs.Worlds.{HasWritten};
 ghost use Rattle.read_world_laws.specs.Inside.{inside};
 ghost use Rattle.read_world_laws.specs.Mended.{mend};
 ghost use Rattle.fault_history_laws.specs.Faults.{NoneFailed};
-ghost use Rattle.plan_history_laws.specs.Passes.{AreUnrefused, own_steps};
-ghost use Rattle.conducting_laws.specs.Rounds.{IsConducting, IsRefused};
+ghost use Rattle.play_result_laws.specs.Passes.{own_steps};
+ghost use Rattle.plan_history_laws.specs.Passes.{AreUnrefused};
+ghost use Rattle.play_result_laws.specs.Rounds.{IsConducting, IsRefused};
 ghost use Rattle.worked_play_laws.specs.Worked.{IsByPass, IsWorked, conducts};
+
+pub use conducting::{law_of_conductors, law_of_halts, law_of_looks};
 
 /// Where the one who conducts says that all is over and no client object is out, the play was done whole: no step has failed, each sink's file
 /// has taken its text of the plain function, and what a log prints of the entries is all that a play asks, each in its time.

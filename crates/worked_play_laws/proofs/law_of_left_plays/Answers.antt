@@ -1,11 +1,11 @@
 use Rattle.plan_history_laws.proofs.Files.{requested_fronts}
 use Rattle.play_log.specs.Entries.{steps_of}
-use Rattle.conducting_laws.proofs.Rounds.{conducted_accepted, conducted_tunnels}
+use Rattle.worked_play_laws.proofs.Rounds.{conducted_accepted, conducted_tunnels}
 use Rattle.worked_play_laws.specs.Worked.{conducts}
 use Rattle.worked_play_laws.proofs.Asked.{asks, history, ordered}
 use Rattle.worked_play_laws.proofs.ByPass.{all_by_pass, all_conducted}
 use Rattle.worked_play_laws.proofs.Unrefused.{none_refused}
-use Rattle.plan_history_laws.specs.Passes.{own_steps}
+use Rattle.play_result_laws.specs.Passes.{own_steps}
 use Rattle.worked_play_laws.proofs.law_of_left_plays.Goals as goal
 
 pub returns : goal.returns

@@ -1,7 +1,7 @@
 use Rattle.plan_history_laws.proofs.Ends.{played_out}
 use Rattle.plan_history_laws.proofs.Files.{requested_none, requested_whole}
 use Rattle.plan_history_laws.proofs.Printed.{printed_conducted}
-use Rattle.conducting_laws.proofs.Rounds.{conducted_over}
+use Rattle.worked_play_laws.proofs.Rounds.{conducted_over}
 use Rattle.worked_play_laws.specs.Worked.{conducts}
 use Rattle.worked_play_laws.proofs.Asked.{history, asks, ordered, requested}
 use Rattle.worked_play_laws.proofs.Unrefused.{none_refused}

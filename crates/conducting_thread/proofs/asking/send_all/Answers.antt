@@ -4,7 +4,7 @@ use Rattle.il_machine.specs.Acts as acts
 use Rattle.graph_acts.specs.Plain.{sight_of}
 use Rattle.board.specs.Boards.{own_calls}
 use Rattle.play_result_laws.specs.Asked.{sending}
-use Rattle.pass_book.specs.declared.seat.Seat.{Seat}
+use Rattle.work_signs.specs.declared.seat.Seat.{Seat}
 use Rattle.conducting_thread.specs.Asking.{AreAnswered, HasAsked}
 use Rattle.conducting_thread.proofs.Asked.{answered_more, answered_no_more, asked_more}
 use Rattle.conducting_thread.proofs.Lists.{around, one_more}

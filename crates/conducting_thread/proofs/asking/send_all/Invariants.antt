@@ -2,7 +2,7 @@ use Rattle.std.proofs.Common.{map, take}
 use Rattle.graph_acts.specs.Plain.{sight_of}
 use Rattle.board.specs.Boards.{own_calls}
 use Rattle.play_result_laws.specs.Asked.{sending}
-use Rattle.pass_book.specs.declared.seat.Seat.{Seat}
+use Rattle.work_signs.specs.declared.seat.Seat.{Seat}
 use Rattle.conducting_thread.specs.Asking.{HasAsked, Keeps}
 use Rattle.conducting_thread.proofs.asking.send_all.Given as goal
 

@@ -3,10 +3,10 @@ use Rattle.il_machine.specs.Acts as acts
 use Rattle.graph_acts.specs.Plain.{sight_of}
 use Rattle.board.specs.Boards.{own_calls}
 use Rattle.play_result_laws.specs.Asked.{sending}
-use Rattle.pass_book.specs.declared.seat.Seat.{Seat}
+use Rattle.work_signs.specs.declared.seat.Seat.{Seat}
 use Rattle.conductor.specs.declared.phase.Phase.{Phase}
 use Rattle.play_plan_laws.specs.Assemblies.{PlayFiles}
-use Rattle.conducting_laws.specs.Rounds.{AreMade}
+use Rattle.play_result_laws.specs.Rounds.{AreMade}
 use Rattle.conducting_thread.specs.Asking.{AreAnswered}
 use Rattle.conducting_thread.specs.Seating.{handles_of}
 use Rattle.conducting_thread.proofs.Lists.{fused}

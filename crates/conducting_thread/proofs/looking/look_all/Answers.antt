@@ -1,6 +1,6 @@
 use Rattle.std.proofs.Common.{ℕ, List, [], ◌∷◌, ◌++◌, length, length-set, take, Ok, Err, ◌∙◌, subst}
 use Rattle.il_machine.specs.Acts as acts
-use Rattle.conducting_laws.specs.Rounds.{looks}
+use Rattle.play_result_laws.specs.Rounds.{looks}
 use Rattle.graph_acts.specs.Plain.{sight_of}
 use Rattle.board.specs.Boards.{own_calls}
 use Rattle.conducting_thread.specs.Asking.{HasAsked}

@@ -1,5 +1,5 @@
 use Rattle.std.proofs.Common.{◌≡◌, length, take}
-use Rattle.conducting_laws.specs.Rounds.{looks}
+use Rattle.play_result_laws.specs.Rounds.{looks}
 use Rattle.graph_acts.specs.Plain.{sight_of}
 use Rattle.board.specs.Boards.{own_calls}
 use Rattle.conducting_thread.specs.Asking.{HasAsked, Keeps}

@@ -2,6 +2,7 @@ use Rattle.std.proofs.Common.{ap, ◌∙◌, ◌++◌, [], option_map, subst, sy
 use Rattle.board.specs.Boards.{first_of, pass_view}
 use Rattle.graph_acts.specs.Plain.{sight_of}
 use Rattle.play_log.specs.Choosing.{picked}
+use Rattle.play_log.specs.Lines.{IsLogLine}
 use Rattle.play_log.specs.Places.{IsKeptAt}
 use Rattle.pass_book.specs.Saying.{both_said, line_by, reply_said}
 use Rattle.pass_book.proofs.Claimed.{called_work}
@@ -17,7 +18,11 @@ pub returns-clause-goes_on : goal.returns-clause-goes_on
 returns-clause-goes_on g c =
     let see = sight_of g.C.Client g.S.Source g.K.Sink in
     book_called see g.C.Client.HEADERS c.args.board.now c.args.seats.now c.args.self.now c.note.new.self c.call.new.pass c.args.act c.in-Ok.place c.in-Ok.reply
-    c.requires.book c.requires.of_play c.in-Ok.ensures.pass.0 c.in-Ok.ensures.pass.1 c.in-Ok.ensures.ok
+    c.requires.book c.requires.of_play
+    (subst (λ o. IfSome (option_map (line_by c.args.self.now.number) o) IsLogLine)
+    (λ i. both_said (c.act_said-said.ensures i) ((c.reply_said.ensures ∙ ap (λ f. reply_said f c.in-Ok.reply) c.frames_of-frames.ensures) i))
+    c.note.ensures.said)
+    c.in-Ok.ensures.pass.0 c.in-Ok.ensures.pass.1 c.in-Ok.ensures.ok
     c.note.ensures.same.0 c.note.ensures.same.1 c.note.ensures.same.2 c.note.ensures.broken
     (λ lines kept whole. subst (λ o. IsKeptAt (lines ++ picked (option_map (line_by c.args.self.now.number) o) c.in-Ok.place []) c.note.new.self.log)
     (λ i. both_said (c.act_said-said.ensures i) ((c.reply_said.ensures ∙ ap (λ f. reply_said f c.in-Ok.reply) c.frames_of-frames.ensures) i))

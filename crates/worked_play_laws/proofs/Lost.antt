@@ -14,13 +14,13 @@ use Rattle.play_build_laws.specs.Stages.{IsStage, Joining}
 use Rattle.play_forms.specs.Plans.{PlanValue}
 use Rattle.play_log.specs.Entries.{Entry, step_of, steps_of}
 use Rattle.play_plan_laws.specs.Assemblies.{IsReady, PlayFiles, assembly_of}
-use Rattle.plan_history_laws.specs.Passes.{RequestAlone, own_steps}
+use Rattle.play_result_laws.specs.Passes.{own_steps}
+use Rattle.plan_history_laws.specs.Passes.{RequestAlone}
 use Rattle.plan_history_laws.specs.Refused.{is_refused}
 use Rattle.plan_history_laws.specs.Requests.{is_request}
 use Rattle.plan_history_laws.proofs.Unrefused.{not_refused}
-use Rattle.conducting_laws.specs.Rounds.{IsConducting, looks}
-use Rattle.conducting_laws.proofs.Rounds.{conducted_requests}
-use Rattle.conducting_thread.specs.Looking.{IsLost}
+use Rattle.worked_play_laws.proofs.Rounds.{conducted_requests}
+use Rattle.play_result_laws.specs.Rounds.{IsConducting, IsLost, looks}
 
 abbrev Steps : Type 0
 Steps = List (Act × Reply)

@@ -30,9 +30,9 @@ use Rattle.old_view_laws.proofs.Standing.{old_sends}
 use Rattle.plan_history_laws.specs.Askings.{IsPlanHistory, read_of}
 use Rattle.plan_history_laws.proofs.Answered.{mapped_at, sent_ok}
 use Rattle.plan_history_laws.proofs.Askings.{sends_to}
-use Rattle.conducting_laws.proofs.Asking.{begins_asked}
-use Rattle.conducting_laws.proofs.Knowing.{Holds, old_on}
-use Rattle.conducting_laws.proofs.Walking.{AcceptsNext, Holding, IsOn, KeepsOthers, KeepsOwn}
+use Rattle.worked_play_laws.proofs.Asking.{begins_asked}
+use Rattle.worked_play_laws.proofs.Knowing.{Holds, old_on}
+use Rattle.worked_play_laws.proofs.Walking.{AcceptsNext, Holding, IsOn, KeepsOthers, KeepsOwn}
 
 -- at a later place of a list
 pub place_on : {A : Type 0} (xs : List A) (i j : ℕ) (y : A) → slice_get xs (i + suc j) ≡ Some y → slice_get xs ((i + 1) + j) ≡ Some y

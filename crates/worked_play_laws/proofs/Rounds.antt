@@ -28,17 +28,18 @@ use Rattle.old_view_laws.specs.Behind.{IsOld}
 use Rattle.old_view_laws.proofs.Standing.{old_over}
 use Rattle.plan_history_laws.specs.Askings.{IsPlanHistory}
 use Rattle.play_log.specs.Entries.{Entry, steps_of}
-use Rattle.plan_history_laws.specs.Passes.{RequestAlone, own_steps}
+use Rattle.play_result_laws.specs.Passes.{own_steps}
+use Rattle.plan_history_laws.specs.Passes.{RequestAlone}
 use Rattle.plan_history_laws.proofs.Answered.{states_told}
 use Rattle.plan_history_laws.proofs.Askings.{link_is, many}
 use Rattle.plan_history_laws.proofs.Opening.{plan_faulty}
-use Rattle.conducting_laws.specs.Rounds.{AreMade, IsConducting, IsRefused, asking_by, begins, looks, round}
-use Rattle.conducting_laws.proofs.Changing.{ChangesStep, changes_accept, changes_first, changes_last, changes_others, changes_own}
-use Rattle.conducting_laws.proofs.Asking.{state_done}
-use Rattle.conducting_laws.proofs.Knowing.{AreJoined, HasFailed, Holds, holds_first, holds_on, joined_old}
-use Rattle.conducting_laws.proofs.Seeing.{LooksOn, looks_first, looks_last, looks_others, looks_own}
-use Rattle.conducting_laws.proofs.Sending.{SendsOn, sends_accept, sends_first, sends_last, sends_others, sends_own}
-use Rattle.conducting_laws.proofs.Walking.{Stand, ends, none_refused, walk}
+use Rattle.play_result_laws.specs.Rounds.{AreMade, IsConducting, IsRefused, asking_by, begins, looks, round}
+use Rattle.worked_play_laws.proofs.Changing.{ChangesStep, changes_accept, changes_first, changes_last, changes_others, changes_own}
+use Rattle.worked_play_laws.proofs.Asking.{state_done}
+use Rattle.worked_play_laws.proofs.Knowing.{AreJoined, HasFailed, Holds, holds_first, holds_on, joined_old}
+use Rattle.worked_play_laws.proofs.Seeing.{LooksOn, looks_first, looks_last, looks_others, looks_own}
+use Rattle.worked_play_laws.proofs.Sending.{SendsOn, sends_accept, sends_first, sends_last, sends_others, sends_own}
+use Rattle.worked_play_laws.proofs.Walking.{Stand, ends, none_refused, walk}
 
 -- ---- a conductor that was told an error
 

@@ -36,11 +36,11 @@ use Rattle.old_view_laws.proofs.Keeping.{old_changed}
 use Rattle.plan_history_laws.specs.Askings.{IsPlanHistory, read_of}
 use Rattle.plan_history_laws.proofs.Answered.{change_is}
 use Rattle.plan_history_laws.proofs.Askings.{changes_asked, link_is}
-use Rattle.conducting_laws.specs.Rounds.{asking_by}
-use Rattle.conducting_laws.proofs.Asking.{change_asked}
-use Rattle.conducting_laws.proofs.Knowing.{Holds, old_on}
-use Rattle.conducting_laws.proofs.Sending.{place_first, place_on}
-use Rattle.conducting_laws.proofs.Walking.{AcceptsNext, Holding, IsOn, KeepsOthers, KeepsOwn}
+use Rattle.play_result_laws.specs.Rounds.{asking_by}
+use Rattle.worked_play_laws.proofs.Asking.{change_asked}
+use Rattle.worked_play_laws.proofs.Knowing.{Holds, old_on}
+use Rattle.worked_play_laws.proofs.Sending.{place_first, place_on}
+use Rattle.worked_play_laws.proofs.Walking.{AcceptsNext, Holding, IsOn, KeepsOthers, KeepsOwn}
 
 -- how many acts of the change are made before a step, and once it is made
 abbrev from_act : ChangeStep → ℕ

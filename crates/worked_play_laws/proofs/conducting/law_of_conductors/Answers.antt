@@ -1,5 +1,5 @@
-use Rattle.conducting_laws.proofs.Rounds.{conducted_accepted, conducted_over, conducted_requests, conducted_tunnels}
-use Rattle.conducting_laws.proofs.law_of_conductors.Goals as goal
+use Rattle.worked_play_laws.proofs.Rounds.{conducted_accepted, conducted_over, conducted_requests, conducted_tunnels}
+use Rattle.worked_play_laws.proofs.conducting.law_of_conductors.Goals as goal
 
 pub returns : goal.returns
 returns c = record {

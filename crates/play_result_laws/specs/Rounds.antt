@@ -1,6 +1,7 @@
 -- What the one who conducts a play does, of its own acts alone: rounds of a look at each component in the order of the script, and then the
 -- acts of the phase that is answered.
-use Rattle.std.specs.Prelude.{◌≡◌, ◌≢◌, ℕ, ◌<◌, false, List, [], ◌∷◌, ◌++◌, length, map, Option, Ok}
+use Rattle.std.specs.Prelude.{◌≡◌, ◌≢◌, ◌⊎◌, ℕ, ◌<◌, false, List, [], ◌∷◌, ◌++◌, length, map, slice_get, take, Option, Some, Ok, Err}
+use Rattle.omx_types.specs.declared.error.OmxError.{OmxError}
 use Rattle.omx_types.specs.declared.handle.Handle.{Handle}
 use Rattle.il_machine.specs.declared.answer.Progress.{Progress as Seen}
 use Rattle.il_machine.specs.Acts.{Act, Reply}
@@ -60,3 +61,24 @@ pub record IsRefused (plan : PlanValue) (files : PlayFiles) (handles : List Hand
   pub due : AreMade plan files handles phase (made ++ expected ∷ left)
   pub other : reply ≢ expected.1
   pub is : own ≡ before ++ looks handles views ++ made ++ (expected.0, reply) ∷ more
+
+-- looks at the components up to one, at which it was refused, as if there were no such handle
+pub record IsLostLook (handles : List Handle) (steps : List (Act × Reply)) : Type 0 where
+  pub views : List (Option Seen)
+  pub handle : Handle
+  pub error : OmxError
+  pub there : slice_get handles (length views) ≡ Some handle
+  pub is : steps ≡ looks (take (length views) handles) views ++ (Progress handle, Progressed (Err error)) ∷ []
+
+-- so did the acts of one who conducts
+pub record IsLost (plan : PlanValue) (files : PlayFiles) (handles : List Handle) (own : List (Act × Reply)) : Type 0 where
+  pub before : List (Act × Reply)
+  pub value : ConductorValue
+  pub looked : List (Act × Reply)
+  pub conducting : IsConducting plan files handles before value
+  pub lost : IsLostLook handles looked
+  pub is : own ≡ before ++ looked
+
+-- one of its acts was answered as none of a play is
+abbrev pub IsHalted : PlanValue → PlayFiles → List Handle → List (Act × Reply) → Type 0
+IsHalted plan files handles own = IsRefused plan files handles own ⊎ IsLost plan files handles own

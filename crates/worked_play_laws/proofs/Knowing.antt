@@ -26,8 +26,8 @@ use Rattle.play_history_laws.specs.Order.{Cursor, nothing_asked}
 use Rattle.old_view_laws.specs.Behind.{IsOld}
 use Rattle.old_view_laws.proofs.Keeping.{old_stays}
 use Rattle.plan_history_laws.proofs.Opening.{plan_faulty}
-use Rattle.conducting_laws.proofs.Looking.{IsBroken}
-use Rattle.conducting_laws.proofs.Walking.{IsOn}
+use Rattle.worked_play_laws.proofs.Looking.{IsBroken}
+use Rattle.worked_play_laws.proofs.Walking.{IsOn}
 
 -- ---- tunnels
 

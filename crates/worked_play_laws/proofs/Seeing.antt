@@ -30,11 +30,11 @@ use Rattle.old_view_laws.proofs.Behind.{behind_on}
 use Rattle.old_view_laws.proofs.Hearing.{old_hears}
 use Rattle.plan_history_laws.specs.Askings.{IsPlanHistory}
 use Rattle.plan_history_laws.proofs.Askings.{named, place_read}
-use Rattle.conducting_laws.specs.Rounds.{looks}
-use Rattle.conducting_laws.proofs.Knowing.{HasFailed, Holds, failed_on, joined_old, old_on}
-use Rattle.conducting_laws.proofs.Looking.{IsBroken, looks_behind, shown}
-use Rattle.conducting_laws.proofs.Sending.{place_first, place_on}
-use Rattle.conducting_laws.proofs.Walking.{Holding, IsOn, KeepsOthers, KeepsOwn}
+use Rattle.play_result_laws.specs.Rounds.{looks}
+use Rattle.worked_play_laws.proofs.Knowing.{HasFailed, Holds, failed_on, joined_old, old_on}
+use Rattle.worked_play_laws.proofs.Looking.{IsBroken, looks_behind, shown}
+use Rattle.worked_play_laws.proofs.Sending.{place_first, place_on}
+use Rattle.worked_play_laws.proofs.Walking.{Holding, IsOn, KeepsOthers, KeepsOwn}
 
 -- what is left of the looks once the first is made
 record IsCut (hs : List Handle) (vs : List (Option Progress)) (step : MachineAct × Reply) (todo : List (MachineAct × Reply)) : Type 0 where

@@ -15,9 +15,10 @@ use Rattle.fault_history_laws.proofs.Faulty.{one_faulty}
 use Rattle.fault_history_laws.proofs.Telling.{one_given}
 use Rattle.plan_history_laws.specs.Askings.{read_of}
 use Rattle.play_log.specs.Entries.{Entry, step_of, steps_of}
-use Rattle.plan_history_laws.specs.Passes.{RequestAlone, own_steps}
+use Rattle.play_result_laws.specs.Passes.{own_steps}
+use Rattle.plan_history_laws.specs.Passes.{RequestAlone}
 use Rattle.plan_history_laws.proofs.Requested.{history_on, unrequested}
-use Rattle.conducting_laws.proofs.Looking.{IsBroken, broken_on}
+use Rattle.worked_play_laws.proofs.Looking.{IsBroken, broken_on}
 
 -- ---- whose entry it is
 

@@ -1,7 +1,7 @@
 use Rattle.std.proofs.Common.{inl, inr}
-use Rattle.conducting_laws.proofs.Rounds.{conducted_accepted}
-use Rattle.conducting_thread.proofs.Lost.{none_lost}
-use Rattle.conducting_thread.proofs.laws.law_of_halts.Goals as goal
+use Rattle.worked_play_laws.proofs.Rounds.{conducted_accepted}
+use Rattle.worked_play_laws.proofs.Lost.{none_lost}
+use Rattle.worked_play_laws.proofs.conducting.law_of_halts.Goals as goal
 
 pub returns : goal.returns
 returns c = λ plan files handles w R S own entries after N r H. elim H [

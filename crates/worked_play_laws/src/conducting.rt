@@ -1,7 +1,5 @@
 //! The conductor of a play among those who work: by its own acts alone it is known that all that is asked is asked in order and in time,
 //! that it is accepted, and when the play is over. Stated on functions that do nothing; plays by workers stand on them.
-#![tactic(auto)]
-
 ghost use Rattle.std.specs.Prelude.{Bool, List, None, Ok, Some, length, true, ◌<◌, ◌≡◌, ◌≤◌, ℕ};
 ghost use Rattle.omx_types.specs.declared.handle.Handle.{Handle};
 ghost use Rattle.omx_types.specs.declared.state.State.TheVariants.{Loaded};
@@ -27,8 +25,9 @@ ghost use Rattle.play_history_laws.specs.Order.{Cursor};
 ghost use Rattle.fault_history_laws.specs.Faults.{IsFaulty};
 ghost use Rattle.old_view_laws.specs.Behind.{IsBehind};
 ghost use Rattle.plan_history_laws.specs.Askings.{IsPlanHistory};
-ghost use Rattle.plan_history_laws.specs.Passes.{RequestAlone, own_steps};
-ghost use Rattle.conducting_laws.specs.Rounds.{IsConducting, IsRefused};
+ghost use Rattle.play_result_laws.specs.Passes.{own_steps};
+ghost use Rattle.plan_history_laws.specs.Passes.{RequestAlone};
+ghost use Rattle.play_result_laws.specs.Rounds.{IsConducting, IsHalted, IsRefused};
 
 /// What a look at a component shows is behind the play: no more than it has told so far.
 pub fn law_of_looks()
@@ -64,4 +63,12 @@ pub fn law_of_conductors()
         → (cursor : Cursor) × (recent : ℕ) × (now : Play) × (streams : List Stream) × IsFaulty (play_cast_of plan) cursor recent now streams after
         × ((link : ℕ) → link < links_of (play_cast_of plan).cast → (((play_cast_of plan).cast).layout).is_late link ≡ true
         → is_joined_at (now.change link).step ≡ true) }
+{}
+
+/// Where one conducts a plan's play among others that request nothing, none of its acts is refused: neither a request nor a look.
+pub fn law_of_halts()
+    ensures { (plan : PlanValue) (files : PlayFiles) (handles : List Handle) (world : World)
+        → IsReady plan files → IsStage (assembly_of plan files) (Joining (length plan.joints)) handles world
+        → (own : ℕ → Bool) (entries : List Entry) (after : World) → RequestAlone own entries → Run world (steps_of entries) after
+        → IsHalted plan files handles (own_steps own entries) → ⊥ }
 {}
