@@ -1,0 +1,4 @@
+pub mod Meetings
+pub mod Hands
+pub mod Rooms
+pub mod Wholes
