@@ -1,6 +1,6 @@
 -- What a play comes to, from before its script was read.
-use Rattle.std.proofs.Common.{◌≡◌, ◌≢◌, inl, inr, ℕ, ◌+◌, ◌<◌, ◌≤◌, List, [], ◌∷◌, length, Option, Some, None, Result, Ok, Err, IsTrue, IsSome, ap, refl, ◌∙◌, arith}
-use Rattle.outside_io.specs.Files.{CountsStand, GoesOn, Outside}
+use Rattle.std.proofs.Common.{◌≡◌, ◌≢◌, inl, inr, ℕ, ◌+◌, ◌<◌, ◌≤◌, List, [], ◌∷◌, length, Option, Some, None, Result, Ok, Err, IsTrue, IsSome, ap, refl, arith}
+use Rattle.outside_io.specs.Files.{Outside}
 use Rattle.outside_io.specs.Whole.{HasReadReason, WasOpened}
 use Rattle.outside_io.specs.declared.whole.Unread.{Unread}
 use Rattle.outside_io.specs.declared.whole.Unread.TheVariants as Unreads
@@ -18,7 +18,6 @@ use Rattle.omxrun.specs.Faults.{fault_of_script}
 use Rattle.omxrun.specs.Plays.{HasPlayReason, IsPlayCourse, IsPlayOutcome, WasRead}
 use Rattle.omxrun.proofs.Absences.{IsAbsenceTold, none-before}
 use Rattle.omxrun.proofs.Causes.{CountsStand-then}
-use Rattle.omxrun.proofs.Files.{files-before}
 use Rattle.omxrun.proofs.Lefts.{OwnNames, undone-early, undone-left, undone-log}
 use Rattle.omxrun.proofs.Traces.{unread-reason}
 
@@ -42,36 +41,10 @@ unread-play name log old new Unreads.OutOfMemory reason there stands writes = un
 
 -- ---- a script that was read
 
-done-before : {workers : ℕ} (script : Script) (log : List ℕ) (old mid new : Outside) (summary : List SinkLine) → GoesOn old mid → mid.file ≡ old.file → IsDone workers script log mid new summary → IsDone workers script log old new summary
-done-before script log old mid new summary on same D = record {
-  plan = D.plan;
-  files = D.files;
-  opened = let O = D.opened in record { planned = O.planned; is_plan = O.is_plan; fitted = O.fitted; fit = O.fit; ready = O.ready };
-  told = D.told;
-  held = λ tells.
-      (let H = D.held (on.tells ∙ tells) in
-      record {
-        samples = H.samples;
-        files_are = files-before old mid _ D.files H.samples same H.files_are;
-        told = H.told;
-        sinks = H.sinks;
-        text = H.text;
-        logged = H.logged;
-        log_is = H.log_is;
-        others = λ name n none. H.others name n none ∙ ap (λ (f : List ℕ → Option (List ℕ)). f name) same;
-      });
-}
-
 -- the script was read, and this came of it
 pub read-outcome : {workers : ℕ} → OwnNames → (name log : List ℕ) (old mid new : Outside) (script : Script) (outcome : Result (List ℕ) Fault) → WasRead name log old mid script → IsPlayCourse workers script log mid new outcome → IsPlayOutcome workers name log old new outcome
 read-outcome names name log old mid new script (Ok printed) W C = record {
-  played = record {
-    script = script;
-    text = W.text;
-    held = W.held;
-    is = W.is;
-    done = let d = C.done in (d.0, done-before script log old mid new d.0 W.goes_on W.files d.1, d.2);
-  };
+  played = record { script = script; mid = mid; read = W; done = C.done };
   unabsent = none-before {T = List ℕ} old mid new (Ok printed) W.absences C.unabsent;
   stand = CountsStand-then old mid new W.stand C.stand;
   unplayed = tt;

@@ -39,6 +39,7 @@ use Rattle.play_course.specs.Settling.{parts_of}
 use Rattle.omxrun.specs.Asked.{CanPlay, HasNoPlan, IsAsked, IsFaulty, IsFaultless, IsGiven, IsMisfitted, IsOrMemory, IsSound, IsUnread}
 use Rattle.omxrun.specs.Plays.{HasPlayReason, IsPlayOutcome, IsPlayReported, IsUnplayed, WasRead, play_text}
 use Rattle.omxrun.specs.Reports.{status_of}
+use Rattle.omxrun.proofs.Files.{files-before}
 use Rattle.omxrun.proofs.Complete.{ReadsOnce, err-same, none-some, printed-status, same-text, true-false}
 
 -- a text comes to one outcome as a play
@@ -372,17 +373,13 @@ none-read once name log text old line why script tells held is has =
 pub unread : {workers : ℕ} → PlayOnce → (name log : List ℕ) (old new : Outside) (before now : ℕ) (told told_new : Option (List ℕ)) (line : ℕ) (why : ScriptWhy) (outcome : Result (List ℕ) Fault) (status : Status) → IsPlayOutcome workers name log old new outcome → IsPlayReported outcome told told_new before now status → IsFaultless old new before now → IsUnread name log old line why → IsOrMemory status (Statuses.Fault (Faults.Script line why))
 unread once name log old new before now told told_new line why (Ok printed) status is told_is none has =
     let P = is.played in
-    absurd (none-read once name log P.text old line why P.script has.tells P.held P.is has)
+    let W = P.read in
+    absurd (none-read once name log W.text old line why P.script has.tells W.held W.is has)
 unread once name log old new before now told told_new line why (Err fault) status is told_is none has =
     elim is.unplayed [
       | inl (same, reason) ↦ fault-status fault (Faults.Script line why) told told_new before now status none.print told_is (unread-last once name log old new line why fault (calm-of old new before now none) has reason)
       | inr (script, mid, W, U) ↦ absurd (none-read once name log W.text old line why script has.tells W.held W.is has)
     ]
-
--- the script that was played is the one that is told
-played-same : PlayOnce → (name log text : List ℕ) (old : Outside) (script asked : Script) → (IsTrue old.tells → old.file name ≡ Some text) → IsPlayScript name log text script → IsAsked name log old asked → script ≡ asked
-played-same once name log text old script asked held is A =
-    one-script once name log A.text script asked (subst (λ (t : List ℕ). IsPlayScript name log t script) (same-text text A.text (old.file name) (held A.tells) (A.given).held) is) A.is
 
 -- ---- a script without a plan
 
@@ -419,7 +416,7 @@ pub unplanned : {workers : ℕ} → PlayOnce → PlansOnce → FaultsOnce → (n
 unplanned once plans_once faults_once name log old new before now told told_new why (Ok printed) status is told_is none has =
     let P = is.played in
     let O = (P.done.1).opened in
-    let e = played-same once name log P.text old P.script has.script P.held P.is has.asked in
+    let e = read-same once name log old P.mid P.script has.script P.read has.asked in
     absurd (no-plan plans_once has.script O.planned why has.shape has.is (subst (λ (s : Script). IsPlanOfScript s O.planned) e O.is_plan))
 unplanned once plans_once faults_once name log old new before now told told_new why (Err fault) status is told_is none has =
     elim is.unplayed [
@@ -489,12 +486,13 @@ module _ (reads_once : ReadsOnce) (plans_once : PlansOnce) (never : FitsNot) (mi
 pub misfitted : {workers : ℕ} → PlayOnce → ReadsOnce → PlansOnce → FitsNot → MisfitsOnce → (name log : List ℕ) (old new : Outside) (before now : ℕ) (told told_new : Option (List ℕ)) (why : PlanFault) (outcome : Result (List ℕ) Fault) (status : Status) → IsPlayOutcome workers name log old new outcome → IsPlayReported outcome told told_new before now status → IsFaultless old new before now → IsMisfitted name log old why → IsOrMemory status (Statuses.Fault (fault_of_plan why))
 misfitted once reads_once plans_once never misfits_once name log old new before now told told_new why (Ok printed) status is told_is none has =
     let P = is.played in
+    let W = P.read in
     let D = P.done.1 in
     let O = D.opened in
-    let H = D.held (has.asked).tells in
-    let e = played-same once name log P.text old P.script has.script P.held P.is has.asked in
+    let H = D.held ((W.goes_on).tells ∙ (has.asked).tells) in
+    let e = read-same once name log old P.mid P.script has.script W has.asked in
     let planned = subst (λ (s : Script). IsPlanOfScript s O.planned) e O.is_plan in
-    let A = subst (λ (ps : List PartLine). AreFiles old ps (D.files) H.samples) (O.fitted).parts H.files_are in
+    let A = subst (λ (ps : List PartLine). AreFiles old ps (D.files) H.samples) (O.fitted).parts (files-before old P.mid (D.plan).parts D.files H.samples W.files H.files_are) in
     absurd (never D.plan why O.fit (has.misfits O.planned D.plan (D.files).heads planned (heads-told old (O.planned).parts D.files H.samples A) O.fitted))
 misfitted once reads_once plans_once never misfits_once name log old new before now told told_new why (Err fault) status is told_is none has =
     elim is.unplayed [
@@ -560,12 +558,13 @@ module _ (reads_once : ReadsOnce) (plans_once : PlansOnce) (script : Script) (lo
 pub faulty : {workers : ℕ} → PlayOnce → ReadsOnce → PlansOnce → (name log : List ℕ) (old new : Outside) (before now : ℕ) (told told_new : Option (List ℕ)) (line : ℕ) (bad : WavFault) (outcome : Result (List ℕ) Fault) (status : Status) → IsPlayOutcome workers name log old new outcome → IsPlayReported outcome told told_new before now status → IsFaultless old new before now → IsFaulty name log old line bad → IsOrMemory status (Statuses.Fault (Faults.BadMedia (Files.Line line) bad))
 faulty {workers} once reads_once plans_once name log old new before now told told_new line bad (Ok printed) status is told_is none has =
     let P = is.played in
+    let W = P.read in
     let D = P.done.1 in
     let O = D.opened in
-    let H = D.held (has.asked).tells in
-    let e = played-same once name log P.text old P.script has.script P.held P.is has.asked in
+    let H = D.held ((W.goes_on).tells ∙ (has.asked).tells) in
+    let e = read-same once name log old P.mid P.script has.script W has.asked in
     let parts = (O.fitted).parts ∙ (planned-parts P.script O.planned O.is_plan ∙ ap parts_of e) in
-    let R = (H.files_are).sources has.place has.file (subst (λ (ps : List PartLine). IsReader ps has.place has.file) (sym parts) (has.part, has.there, has.reads_file)) in
+    let R = (files-before old P.mid (D.plan).parts D.files H.samples W.files H.files_are).sources has.place has.file (subst (λ (ps : List PartLine). IsReader ps has.place has.file) (sym parts) (has.part, has.there, has.reads_file)) in
     absurd (sound-head old has.file has.bytes bad reads_once has.given has.reads R.bytes R.head R.held R.reads)
 faulty {workers} once reads_once plans_once name log old new before now told told_new line bad (Err fault) status is told_is none has =
     elim is.unplayed [

@@ -64,13 +64,12 @@ pub record IsPlayCourse (workers : ℕ) (script : Script) (log : List ℕ) (old 
 
 -- ---- the whole
 
--- the file is a script, which was played whole
+-- the file is a script, which was read, and then played whole
 pub record IsPlayed (workers : ℕ) (name log : List ℕ) (old new : Outside) (printed : List ℕ) : Type 0 where
   pub script : Script
-  pub text : List ℕ
-  pub held : IsTrue old.tells → old.file name ≡ Some text
-  pub is : IsPlayScript name log text script
-  pub done : IsDoneWith workers script log old new printed
+  pub mid : Outside
+  pub read : WasRead name log old mid script
+  pub done : IsDoneWith workers script log mid new printed
 
 -- the file is no script, and no told file changes; or it was read, and this came of it
 abbrev pub IsUnplayed : (workers : ℕ) (name log : List ℕ) → Outside → Outside → Fault → Type 0

@@ -340,11 +340,16 @@ module _ {F : Type 0} (seen : F → FileSeen) (script : Script) (name log : List
         pub log_before : new.file log ≡ old.file log
         log_before = others seen script name log old mid plan entries O own H.after (H.has_run).same tells new H.closed H.closes log no_log
 
-      pub done : (final : Outside) → (IsTrue old.tells → SameBut log new final) → (IsTrue old.tells → final.file log ≡ Some it.text) → IsDone workers script log old final it.summary
-      done final same held_log = record {
+      -- the log was asked for, behind the other files
+      asked_last : (final : Outside) → final.openings ≡ with_name log 1 new.openings → HasAskedFor old final ((read_names plan.parts ++ written_names plan.parts) ++ log ∷ [])
+      asked_last final last = asked_then old new final (read_names plan.parts ++ written_names plan.parts) (log ∷ []) asked_new last
+
+      pub done : (final : Outside) → final.openings ≡ with_name log 1 new.openings → (IsTrue old.tells → SameBut log new final) → (IsTrue old.tells → final.file log ≡ Some it.text) → IsDone workers script log old final it.summary
+      done final last same held_log = record {
         plan = plan;
         files = play_files seen O.heads entries;
         opened = was_opened seen script name log old mid plan entries O own;
+        asked = asked_last final last;
         told = told;
         held = λ tells.
             (let f = O.files_are tells in
@@ -387,7 +392,7 @@ module _ {F : Type 0} (seen : F → FileSeen) (script : Script) (name log : List
         whole = closed_whole;
         goes_on = on;
         since = since;
-        asked = λ n. asked_then old new final (read_names plan.parts ++ written_names plan.parts) (log ∷ []) asked_new (asked n);
+        asked = λ n. asked_last final (asked n);
         failed = λ tells few. (let f = failed tells in (f.0, f.1 ∙ ap (with_name log f.0) (named_none few)));
         others = same;
         stand = calm;

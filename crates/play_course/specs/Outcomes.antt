@@ -47,10 +47,12 @@ pub record AreHeld (workers : ℕ) (log : List ℕ) (plan : PlanValue) (files : 
   pub log_is : IsLogOf workers plan files new text
   pub others : OthersAreKept plan.parts log old new
 
+-- the log's file is the last that was asked for
 pub record IsDone (workers : ℕ) (script : Script) (log : List ℕ) (old new : Outside) (summary : List SinkLine) : Type 0 where
   pub plan : PlanValue
   pub files : PlayFiles
   pub opened : WasOpened script old plan files
+  pub asked : HasAskedFor old new ((read_names plan.parts ++ written_names plan.parts) ++ log ∷ [])
   pub told : summary ≡ planned_summary plan
   pub held : IsTrue old.tells → AreHeld workers log plan files old new summary
 

@@ -1,6 +1,5 @@
-use Rattle.std.proofs.Common.{◌≡◌, ℕ, List, Some, inl, inr, refl, ap, subst, sym, ◌∙◌}
+use Rattle.std.proofs.Common.{◌≡◌, ℕ, List, inl, inr, refl, ap, subst, sym, ◌∙◌}
 use Rattle.omx_types.specs.declared.fault.Fault.{Fault}
-use Rattle.outside_io.specs.Whole.{IsKeptOrFrontOf}
 use Rattle.script_lang.specs.PlayScripts.{IsPlayScript}
 use Rattle.script_lang.specs.declared.play_line.PartLine.{PartLine}
 use Rattle.script_lang.specs.declared.script.Script.{Script}
@@ -55,6 +54,7 @@ returns-in-Ok-write_log-clause-done g c =
     let H = subst (λ (ps : List PartLine). HasEnded (g.P.Player.workers c.args.player.now) (g.P.Player.tells c.args.player.now c.run_and_close.new.player) plan ps (files_seen seen files) mid new c.run_and_close.result) (c.parts_of.ensures ∙ its_parts script O.planned plan.parts O.is_plan (O.fitted).parts) c.run_and_close.ensures in
     let on = goes seen script R.0 log old mid new plan files O own c.run_and_close.result H in
     done seen script R.0 log old mid new plan files O own c.run_and_close.result H c.in-Ok-run_and_close.ran c.in-Ok-run_and_close.is (g.M.Media.outside c.write_log.new.media)
+    (c.in-Ok-write_log.ensures.asked (λ e. cc))
     (λ tells. c.write_log.ensures.others (on.tells ∙ tells)) (λ tells. c.in-Ok-write_log.ensures.held (on.tells ∙ tells))
 
 pub returns-in-Ok-write_log-clause-told : goal.returns-in-Ok-write_log-clause-told
