@@ -1,0 +1,4 @@
+pub mod Faults
+pub mod Seated
+pub mod Unfiled
+pub mod Remaining

@@ -1,0 +1,11 @@
+pub mod Seated
+pub mod Acting
+pub mod Entering
+pub mod Playing
+pub mod Halting
+pub mod Played
+pub mod Lining
+pub mod Saying
+pub mod Unbroken
+pub mod Logging
+pub mod Counting

@@ -1,0 +1,5 @@
+pub mod Told
+pub mod Coming
+pub mod Posts
+pub mod Failing
+pub mod Leaving
