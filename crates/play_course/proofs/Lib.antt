@@ -4,3 +4,4 @@ pub mod Ways
 pub mod Told
 pub mod Failing
 pub mod Ends
+pub mod Closed

@@ -27,6 +27,19 @@ pub record HasRun (workers : ℕ) (Tells : List PartLine → List ℕ → Type 0
   pub left : IfErr ran (λ fault. (given : PlayFiles) → IsReady plan given → AreFilesOf plan given before → LeavesBehind plan given before after fault)
 
 -- Then its files were closed, and the counts were looked at.
+pub record HasClosed (parts : List PartLine) (after : List (Option FileSeen)) (old new : Outside) (ran : Result Ran RunFault) (result : Result Ran Fault) : Type 0 where
+  pub closed : Result (Unit {0}) Failed
+  pub reads : Bool
+  pub writes : Bool
+  pub closes : AreClosed after old new closed
+  pub few : old.read_faults < 2 ^ 64
+  pub read : IsTrue reads → old.read_faults < new.read_faults
+  pub unread : IsFalse reads → new.read_faults ≡ old.read_faults
+  pub wrote : IsTrue writes → old.write_faults < new.write_faults
+  pub unwritten : IsFalse writes → new.write_faults ≡ old.write_faults
+  pub is : result ≡ settled parts ran closed reads writes
+
+-- both
 pub record HasEnded (workers : ℕ) (Tells : List PartLine → List ℕ → Type 0) (plan : PlanValue) (parts : List PartLine) (before : List (Option FileSeen)) (old new : Outside) (result : Result Ran Fault) : Type 0 where
   pub after : List (Option FileSeen)
   pub ran : Result Ran RunFault

@@ -4,7 +4,7 @@ ghost use Rattle.std.specs.Prelude.{◌≡◌, ℕ, List, IfErr, IfOk, IsTrue, O
 ghost use Rattle.outside_io.specs.Files.{AbsencesStand, CountsStand, GoesOn};
 ghost use Rattle.script_lang.specs.PlayScripts.{IsPlayScript};
 ghost use Rattle.play_files.specs.Seen.{file_seen, files_seen};
-ghost use Rattle.play_course.specs.Courses.{HasEnded, HasRun};
+ghost use Rattle.play_course.specs.Courses.{HasClosed, HasEnded, HasRun};
 ghost use Rattle.play_course.specs.Outcomes.{HoldsTold, IsDone, IsUndone};
 ghost use Rattle.play_course.specs.Players.{CanPlay};
 ghost use Rattle.play_course.specs.Settling.{parts_of};
@@ -42,6 +42,24 @@ fn run<S: Source, K: Sink, P: Player<S, K>>(
     }
 }
 
+/// Closes the files of a play that was run. What the run comes to is told by how often reads and writes failed since it began, and by how the
+/// closings went.
+pub fn close_run<M: Media>(
+    media: &mut M,
+    parts: &[PartLine],
+    files: Vec<Option<PartFile<M::Src, M::Snk>>>,
+    ran: Result<Ran, RunFault>,
+) -> Result<Ran, Fault>
+    ensures { HasClosed parts.now (files_seen (file_seen M.Src.Source M.Snk.Sink) files.items) (M.outside media.old) (M.outside media.new) ran result }
+{
+    let read_before = media.read_faults();
+    let write_before = media.write_faults();
+    let closed = close_files(media, files);
+    let reads = has_risen(read_before, media.read_faults());
+    let writes = has_risen(write_before, media.write_faults());
+    settle(parts, ran, closed, reads, writes)
+}
+
 /// Runs a play, and closes its files.
 fn run_and_close<M: Media, P: Player<M::Src, M::Snk>>(
     alloc: Global,
@@ -54,13 +72,8 @@ fn run_and_close<M: Media, P: Player<M::Src, M::Snk>>(
     ensures { HasEnded (P.workers player.old) (P.tells player.old player.new) opened.plan parts.now (files_seen (file_seen M.Src.Source M.Snk.Sink) opened.files.items) (M.outside media.old) (M.outside media.new) result }
 {
     let Opened { plan, mut files } = opened;
-    let read_before = media.read_faults();
-    let write_before = media.write_faults();
     let ran = run(alloc, plan, files.as_mut_slice(), player);
-    let closed = close_files(media, files);
-    let reads = has_risen(read_before, media.read_faults());
-    let writes = has_risen(write_before, media.write_faults());
-    settle(parts, ran, closed, reads, writes)
+    close_run(media, parts, files, ran)
 }
 
 /// Plays a script: opens its files, has them played, closes them, and writes the log. On a fault every file that was opened is closed again,

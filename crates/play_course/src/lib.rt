@@ -7,7 +7,7 @@ mod player;
 mod settling;
 mod summary;
 
-pub use course::play_script;
+pub use course::{close_run, play_script};
 pub use player::{Player, RunFault};
-pub use settling::parts_of;
-pub use summary::{SinkLine, Summary};
+pub use settling::{Ran, log_fault, parts_of};
+pub use summary::{SinkLine, Summary, summary_of};

@@ -12,9 +12,9 @@ use script_lang::{PartLine, Script};
 
 /// A whole run: its log, and what is told of its sinks.
 #[derive(Drop)]
-pub(crate) struct Ran {
-    pub(crate) text: LogText,
-    pub(crate) summary: Summary,
+pub struct Ran {
+    pub text: LogText,
+    pub summary: Summary,
 }
 
 /// Whether a count rose, which never falls.
@@ -98,7 +98,7 @@ pub(crate) fn settle(
 }
 
 /// What a log that wasn't written is for the play.
-pub(crate) fn log_fault(refused: Refused) -> Fault
+pub fn log_fault(refused: Refused) -> Fault
     ensures { result ≡ fault_of_log refused }
 {
     match refused {

@@ -105,7 +105,7 @@ fn line_of(plan: &Plan, place: u32) -> SinkLine
 }
 
 /// What a whole play of the plan tells.
-pub(crate) fn summary_of(alloc: Global, plan: &Plan) -> Result<Summary, AllocError>
+pub fn summary_of(alloc: Global, plan: &Plan) -> Result<Summary, AllocError>
     requires { (files : PlayFiles) × IsReady plan.now files }
     ensures { IfOk result (λ summary. summary ≡ planned_summary plan.now) }
 {
