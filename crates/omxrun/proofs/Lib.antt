@@ -14,3 +14,13 @@ pub mod Runs
 pub mod Traces
 pub mod TurnEnds
 pub mod Turns
+pub mod Premises
+pub mod Placed
+pub mod Opened
+pub mod Kept
+pub mod Begun
+pub mod Led
+pub mod Broken
+pub mod OwnNames
+pub mod NoGates
+pub mod Ran

@@ -21,24 +21,6 @@ use Rattle.play_forms.specs.Plans.{IsFaultOfScript, IsFitFault, IsFitted, IsPlan
 use Rattle.play_result_laws.specs.Files.{IsReader, IsWriter, read_by}
 use Rattle.play_files.specs.Left.{HaveHeads}
 use Rattle.play_course.specs.Settling.{parts_of}
-use Rattle.omxrun.specs.Words.{Asked, to_trace, to_play, to_make, to_clock, to_pack, to_unpack, AreWordsOf}
-
--- with so many workers a play is built: with none
-abbrev pub IsBuilt : ℕ → Type 0
-IsBuilt workers = workers ≡ 0
-
--- the words ask for a play by so many workers, which is built
-abbrev pub AskToPlay : (words : List (List ℕ)) (script : List ℕ) (workers : ℕ) (log : List ℕ) → Type 0
-AskToPlay words script workers log = AreWordsOf words (to_play script workers log) × IsBuilt workers
-
--- the forms of words that aren't built yet: a play by workers
-abbrev pub IsUnbuilt : Asked → Type 0
-IsUnbuilt (to_trace script) = ⊥
-IsUnbuilt (to_play script workers log) = 1 ≤ workers
-IsUnbuilt (to_make seed frames folder) = ⊥
-IsUnbuilt (to_clock script) = ⊥
-IsUnbuilt (to_pack input output) = ⊥
-IsUnbuilt (to_unpack input output) = ⊥
 
 -- the told file of that name, which is given to its end
 pub record IsGiven (old : Outside) (name bytes : List ℕ) : Type 0 where

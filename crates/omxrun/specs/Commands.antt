@@ -1,11 +1,8 @@
 -- What a command comes to, and what is printed of it.
-use Rattle.std.specs.Prelude.{◌≡◌, ℕ, ◌≤◌, List, Option, Result, Err}
+use Rattle.std.specs.Prelude.{ℕ, List, Option, Result}
 use Rattle.outside_io.specs.Files.{Outside}
 use Rattle.omx_types.specs.declared.fault.Fault.{Fault}
-use Rattle.omx_types.specs.declared.fault.Fault.TheVariants.{NotBuilt}
-use Rattle.omx_types.specs.declared.fault.Unbuilt.TheVariants as Unbuilts
 use Rattle.omx_types.specs.declared.fault.Status.{Status}
-use Rattle.omxrun.specs.Asked.{IsBuilt}
 use Rattle.omxrun.specs.Clocked.{IsClockOutcome}
 use Rattle.omxrun.specs.Making.{IsMakeOutcome}
 use Rattle.rtp_parts.specs.Answers.{StoppedPacking}
@@ -17,14 +14,12 @@ use Rattle.omxrun.specs.Turned.{IsTurnOutcome}
 use Rattle.omxrun.specs.Words.{Asked, to_trace, to_play, to_make, to_clock, to_pack, to_unpack}
 use Rattle.omxrun.specs.declared.done.Done.{Done}
 
--- a play by workers isn't built
 abbrev pub HasRun : Asked → Outside → Outside → Option (List ℕ) → Option (List ℕ) → ℕ → ℕ → Status → Type 0
 HasRun (to_trace script) old new told told_new before now status =
     (outcome : Result (Unit {0}) Fault) × (text : List ℕ) × IsTraceOutcome script old new outcome text
     × IsPrinted (status_of outcome) text told told_new before now status
 HasRun (to_play script workers log) old new told told_new before now status =
-    (IsBuilt workers → (outcome : Result (List ℕ) Fault) × IsPlayOutcome workers script log old new outcome × IsPlayReported outcome told told_new before now status)
-    × (1 ≤ workers → (new ≡ old) × IsReported (Err (NotBuilt Unbuilts.Words)) told told_new before now status)
+    (outcome : Result (List ℕ) Fault) × IsPlayOutcome workers script log old new outcome × IsPlayReported outcome told told_new before now status
 HasRun (to_make seed frames folder) old new told told_new before now status =
     (outcome : Result Done Fault) × IsMakeOutcome seed frames folder old new outcome × IsReported outcome told told_new before now status
 HasRun (to_clock script) old new told told_new before now status =

@@ -13,3 +13,8 @@ pub mod Texts
 pub mod Traced
 pub mod Turned
 pub mod Words
+pub mod Reasons
+pub mod Seated
+pub mod Sights
+pub mod Runs
+pub mod Answers

@@ -18,6 +18,7 @@ mod text;
 mod texts;
 mod trace;
 mod words;
+mod workers;
 
 use omx_types::{Fault, Status};
 use outside_host::{HostMedia, HostSink};

@@ -1,43 +1,47 @@
-//! The command `play`: a script is read and played, and the summary of its sinks or a fault is printed.
+//! The command `play`: a script is read and played, by workers or without, and the summary of its sinks or a fault is printed.
 
-ghost use Rattle.std.specs.Prelude.{◌≡◌, ◌≤◌, ℕ, List, Result, IfOk, IfErr, IsTrue};
-ghost use Rattle.outside_io.specs.Files.{GoesOn};
+ghost use Rattle.std.specs.Prelude.{◌≡◌, ◌≤◌, ℕ, List, Result, IfOk, IfErr, OnOk, length};
+ghost use Rattle.outside_io.specs.Files.{AbsencesStand, CountsStand, GoesOn};
 ghost use Rattle.script_lang.specs.PlayScripts.{IsPlayScript};
-ghost use Rattle.play_course.specs.Outcomes.{HoldsTold};
-ghost use Rattle.play_course.specs.Settling.{parts_of};
+ghost use Rattle.play_course.specs.Outcomes.{IsDone, IsUndone};
 ghost use Rattle.omxrun.specs.Absences.{AreAbsencesTold};
-ghost use Rattle.omxrun.specs.Plays.{HasPlayReason, IsPlayCourse, IsPlayIn, IsPlayOutcome, IsPlayReported, WasRead};
+ghost use Rattle.omxrun.specs.Plays.{HasPlayReason, IsPlayCourse, IsPlayOutcome, IsPlayReported, WasRead};
 
 use crate::print::{print, report};
 use crate::script::SCRIPT_BYTES;
 use crate::summary::text_of_play;
 use crate::trace::{refused_fault, unread_fault};
+use crate::workers::play_workers;
 use omx_types::{Fault, Status};
 use outside_io::{Media, Sink, read_whole};
-use play_course::{Player, parts_of, play_script};
+use play_course::{Summary, parts_of, play_script};
 use play_files::law_of_names;
+use play_run::OneThread;
+use play_worker::NoGate;
 use script_lang::{Script, read_script};
 use std::alloc::Global;
+use std::sync::Wait;
+use std::thread::Threads;
 
-/// Plays the script in the file of that name, and prints what is told of its sinks, or the line of a fault.
-pub fn play_file<M: Media, P: Player<M::Src, M::Snk>, O: Sink>(
+/// Plays the script in the file of that name with a worker for each gate, and prints what is told of its sinks, or the line of a fault.
+pub fn play_file<R: Threads + Wait + Sync, M: Media, O: Sink>(
+    rt: &R,
     alloc: Global,
     media: &mut M,
     name: &str,
     log: &str,
-    player: &mut P,
+    gates: Vec<NoGate>,
     out: &mut O,
 ) -> Status
+    requires few { length gates.items ≤ 8 }
     ensures goes_on { GoesOn (M.outside media.old) (M.outside media.new) }
     ensures later { O.faults out.old ≤ O.faults out.new }
-    ensures played { (outcome : Result (List ℕ) Fault) × IsPlayOutcome (P.workers player.old) name.now log.now (M.outside media.old) (M.outside media.new) outcome
+    ensures played { (outcome : Result (List ℕ) Fault) × IsPlayOutcome (length gates.items) name.now log.now (M.outside media.old) (M.outside media.new) outcome
         × IsPlayReported outcome (O.told out.old) (O.told out.new) (O.faults out.old) (O.faults out.new) result }
-    ensures told { result ≡ Status.Ok → IsTrue (M.outside media.old).tells → (script : Script) × IsPlayIn name.now log.now (M.outside media.old) script
-        × HoldsTold (P.tells player.old player.new (parts_of script)) log.now (M.outside media.new) }
 {
     law_of_names();
     match script_of(alloc, media, name, log) {
-        Ok(script) => play_read(alloc, media, &script, log, player, out),
+        Ok(script) => play_read(rt, alloc, media, &script, log, gates, out),
         Err(fault) => report(Err(fault), out),
     }
 }
@@ -61,27 +65,53 @@ fn script_of<M: Media>(alloc: Global, media: &mut M, name: &str, log: &str) -> R
 }
 
 /// Plays a script, and prints what is told of its sinks, or the line of a fault.
-fn play_read<M: Media, P: Player<M::Src, M::Snk>, O: Sink>(
+fn play_read<R: Threads + Wait + Sync, M: Media, O: Sink>(
+    rt: &R,
     alloc: Global,
     media: &mut M,
     script: &Script,
     log: &str,
-    player: &mut P,
+    gates: Vec<NoGate>,
     out: &mut O,
 ) -> Status
-    requires { (name : List ℕ) × (text : List ℕ) × IsPlayScript name log.now text script.now }
+    requires few { length gates.items ≤ 8 }
+    requires script { (name : List ℕ) × (text : List ℕ) × IsPlayScript name log.now text script.now }
     ensures goes_on { GoesOn (M.outside media.old) (M.outside media.new) }
     ensures later { O.faults out.old ≤ O.faults out.new }
-    ensures played { (outcome : Result (List ℕ) Fault) × IsPlayCourse (P.workers player.old) script.now log.now (M.outside media.old) (M.outside media.new) outcome
+    ensures played { (outcome : Result (List ℕ) Fault) × IsPlayCourse (length gates.items) script.now log.now (M.outside media.old) (M.outside media.new) outcome
         × IsPlayReported outcome (O.told out.old) (O.told out.new) (O.faults out.old) (O.faults out.new) result }
-    ensures told { result ≡ Status.Ok → IsTrue (M.outside media.old).tells
-        → HoldsTold (P.tells player.old player.new (parts_of script.now)) log.now (M.outside media.new) }
 {
-    match play_script(alloc, script, media, log, player) {
+    match play_by(rt, alloc, media, script, log, gates) {
         Ok(summary) => {
             let text = text_of_play(parts_of(script), summary.sinks());
             print(&text, Status::Ok, out)
         }
         Err(undone) => report(Err(undone), out),
+    }
+}
+
+/// Plays a script with a worker for each gate, while the calling thread conducts; without a gate that thread plays, by calls that return.
+fn play_by<R: Threads + Wait + Sync, M: Media>(
+    rt: &R,
+    alloc: Global,
+    media: &mut M,
+    script: &Script,
+    log: &str,
+    gates: Vec<NoGate>,
+) -> Result<Summary, Fault>
+    requires few { length gates.items ≤ 8 }
+    requires script { (name : List ℕ) × (text : List ℕ) × IsPlayScript name log.now text script.now }
+    ensures goes_on { GoesOn (M.outside media.old) (M.outside media.new) }
+    ensures done { IfOk result (IsDone (length gates.items) script.now log.now (M.outside media.old) (M.outside media.new)) }
+    ensures stand { OnOk result (CountsStand (M.outside media.old) (M.outside media.new)) }
+    ensures absences { OnOk result (AbsencesStand (M.outside media.old) (M.outside media.new)) }
+    ensures undone { IfErr result (IsUndone (length gates.items) script.now log.now (M.outside media.old) (M.outside media.new)) }
+{
+    if gates.is_empty() {
+        return play_script(alloc, script, media, log, &mut OneThread);
+    }
+    match play_workers(rt, alloc, script, media, log, gates) {
+        Ok((summary, _gates)) => Ok(summary),
+        Err(fault) => Err(fault),
     }
 }

@@ -8,7 +8,7 @@ ghost use Rattle.omx_types.specs.declared.fault.WavFault.{WavFault};
 ghost use Rattle.omxrun.specs.declared.done.Done.{Done};
 ghost use Rattle.play_forms.specs.declared.plan_fault.PlanFault.{PlanFault};
 ghost use Rattle.play_files.specs.Faults.{fault_of_plan};
-ghost use Rattle.omxrun.specs.Asked.{AskToPlay, IsBuilt, IsUnbuilt, IsUntraced, CanTrace, IsUnread, HasNoPlan, IsMisfitted, IsFaulty, CanPlay, CanMake, IsFaultless, IsOrMemory};
+ghost use Rattle.omxrun.specs.Asked.{IsUntraced, CanTrace, IsUnread, HasNoPlan, IsMisfitted, IsFaulty, CanPlay, CanMake, IsFaultless, IsOrMemory};
 ghost use Rattle.omxrun.specs.Clocked.{IsClockOutcome, CanClock, IsUnclocked};
 ghost use Rattle.omxrun.specs.Commands.{HasRun};
 ghost use Rattle.omxrun.specs.Making.{IsMakeOutcome};
@@ -28,10 +28,10 @@ use crate::play::play_file;
 use crate::print::report;
 use crate::trace::trace_file;
 use crate::words::{Command, command_of};
-use omx_types::{Fault, Status, Unbuilt};
+use omx_types::{Fault, Status};
 use outside_io::{Media, Sink};
 use play_forms::law_of_plans;
-use play_run::OneThread;
+use play_worker::NoGate;
 use script_lang::{one_outcome, one_play};
 use std::alloc::Global;
 use std::sync::Wait;
@@ -49,19 +49,17 @@ pub fn run_words<R: Threads + Wait + Sync, M: Media, O: Sink>(
     ensures goes_on { GoesOn (M.outside media.old) (M.outside media.new) }
     ensures later { O.faults out.old ≤ O.faults out.new }
 
-    // Words of no form, and of a form that isn't built yet.
+    // Words of no form.
     ensures usage { AreNoForm (map string_bytes words.now) → (M.outside media.new ≡ M.outside media.old)
         × IsReported (Err Fault.Usage) (O.told out.old) (O.told out.new) (O.faults out.old) (O.faults out.new) result }
-    ensures unbuilt { (asked : Asked) → AreWordsOf (map string_bytes words.now) asked → IsUnbuilt asked → (M.outside media.new ≡ M.outside media.old)
-        × IsReported (Err (Fault.NotBuilt Unbuilt.Words)) (O.told out.old) (O.told out.new) (O.faults out.old) (O.faults out.new) result }
 
     // A trace: what it came to and the text that this asks for, and that the text is printed.
     ensures trace { (script : List ℕ) → AreWordsOf (map string_bytes words.now) (to_trace script) → (outcome : Result (Unit {0}) Fault) × (text : List ℕ)
         × IsTraceOutcome script (M.outside media.old) (M.outside media.new) outcome text
         × IsPrinted (status_of outcome) text (O.told out.old) (O.told out.new) (O.faults out.old) (O.faults out.new) result }
 
-    // A play, by whichever number of workers that is built: what it came to, and what is printed of that.
-    ensures play { (script : List ℕ) (workers : ℕ) (log : List ℕ) → AskToPlay (map string_bytes words.now) script workers log → (outcome : Result (List ℕ) Fault)
+    // A play, by whichever number of workers: what it came to, and what is printed of that.
+    ensures play { (script : List ℕ) (workers : ℕ) (log : List ℕ) → AreWordsOf (map string_bytes words.now) (to_play script workers log) → (outcome : Result (List ℕ) Fault)
         × IsPlayOutcome workers script log (M.outside media.old) (M.outside media.new) outcome
         × IsPlayReported outcome (O.told out.old) (O.told out.new) (O.faults out.old) (O.faults out.new) result }
 
@@ -90,19 +88,19 @@ pub fn run_words<R: Threads + Wait + Sync, M: Media, O: Sink>(
     ensures complete_trace { (script : List ℕ) → AreWordsOf (map string_bytes words.now) (to_trace script) →
         IsFaultless (M.outside media.old) (M.outside media.new) (O.faults out.old) (O.faults out.new) →
         CanTrace script (M.outside media.old) → IsOrMemory result Status.Ok }
-    ensures unread { (script : List ℕ) (workers : ℕ) (log : List ℕ) (line : ℕ) (why : ScriptWhy) → AskToPlay (map string_bytes words.now) script workers log →
+    ensures unread { (script : List ℕ) (workers : ℕ) (log : List ℕ) (line : ℕ) (why : ScriptWhy) → AreWordsOf (map string_bytes words.now) (to_play script workers log) →
         IsFaultless (M.outside media.old) (M.outside media.new) (O.faults out.old) (O.faults out.new) →
         IsUnread script log (M.outside media.old) line why → IsOrMemory result (Status.Fault (Fault.Script line why)) }
-    ensures unplanned { (script : List ℕ) (workers : ℕ) (log : List ℕ) (why : PlanFault) → AskToPlay (map string_bytes words.now) script workers log →
+    ensures unplanned { (script : List ℕ) (workers : ℕ) (log : List ℕ) (why : PlanFault) → AreWordsOf (map string_bytes words.now) (to_play script workers log) →
         IsFaultless (M.outside media.old) (M.outside media.new) (O.faults out.old) (O.faults out.new) →
         HasNoPlan script log (M.outside media.old) why → IsOrMemory result (Status.Fault (fault_of_plan why)) }
-    ensures faulty { (script : List ℕ) (workers : ℕ) (log : List ℕ) (line : ℕ) (fault : WavFault) → AskToPlay (map string_bytes words.now) script workers log →
+    ensures faulty { (script : List ℕ) (workers : ℕ) (log : List ℕ) (line : ℕ) (fault : WavFault) → AreWordsOf (map string_bytes words.now) (to_play script workers log) →
         IsFaultless (M.outside media.old) (M.outside media.new) (O.faults out.old) (O.faults out.new) →
         IsFaulty script log (M.outside media.old) line fault → IsOrMemory result (Status.Fault (Fault.BadMedia (Line line) fault)) }
-    ensures misfitted { (script : List ℕ) (workers : ℕ) (log : List ℕ) (why : PlanFault) → AskToPlay (map string_bytes words.now) script workers log →
+    ensures misfitted { (script : List ℕ) (workers : ℕ) (log : List ℕ) (why : PlanFault) → AreWordsOf (map string_bytes words.now) (to_play script workers log) →
         IsFaultless (M.outside media.old) (M.outside media.new) (O.faults out.old) (O.faults out.new) →
         IsMisfitted script log (M.outside media.old) why → IsOrMemory result (Status.Fault (fault_of_plan why)) }
-    ensures complete { (script : List ℕ) (workers : ℕ) (log : List ℕ) → AskToPlay (map string_bytes words.now) script workers log →
+    ensures complete { (script : List ℕ) (workers : ℕ) (log : List ℕ) → AreWordsOf (map string_bytes words.now) (to_play script workers log) →
         IsFaultless (M.outside media.old) (M.outside media.new) (O.faults out.old) (O.faults out.new) →
         CanPlay script log (M.outside media.old) → IsOrMemory result Status.Ok }
     ensures complete_make { (seed frames : ℕ) (folder : List ℕ) → AreWordsOf (map string_bytes words.now) (to_make seed frames folder) →
@@ -165,9 +163,9 @@ fn run_command<R: Threads + Wait + Sync, M: Media, O: Sink>(
     }
 }
 
-/// Plays by the player of that number of workers. That of none is built.
+/// Plays by so many workers, while the calling thread conducts; without a worker that thread plays.
 fn play_with<R: Threads + Wait + Sync, M: Media, O: Sink>(
-    _rt: &R,
+    rt: &R,
     alloc: Global,
     media: &mut M,
     script: &str,
@@ -175,19 +173,14 @@ fn play_with<R: Threads + Wait + Sync, M: Media, O: Sink>(
     log: &str,
     out: &mut O,
 ) -> Status
+    requires { workers ≤ 8 }
     ensures goes_on { GoesOn (M.outside media.old) (M.outside media.new) }
     ensures later { O.faults out.old ≤ O.faults out.new }
-    ensures played { IsBuilt workers → (outcome : Result (List ℕ) Fault) × IsPlayOutcome workers script.now log.now (M.outside media.old) (M.outside media.new) outcome
+    ensures played { (outcome : Result (List ℕ) Fault) × IsPlayOutcome workers script.now log.now (M.outside media.old) (M.outside media.new) outcome
         × IsPlayReported outcome (O.told out.old) (O.told out.new) (O.faults out.old) (O.faults out.new) result }
-    ensures unbuilt { 1 ≤ workers → (M.outside media.new ≡ M.outside media.old)
-        × IsReported (Err (Fault.NotBuilt Unbuilt.Words)) (O.told out.old) (O.told out.new) (O.faults out.old) (O.faults out.new) result }
 {
-    if workers == 0 {
-        play_file(alloc, media, script, log, &mut OneThread, out)
-    } else {
-        let words = Fault::NotBuilt {
-            what: Unbuilt::Words,
-        };
-        report(Err(words), out)
+    match vec![in alloc; NoGate; workers as usize] {
+        Ok(gates) => play_file(rt, alloc, media, script, log, gates, out),
+        Err(_) => report(Err(Fault::OutOfMemory), out),
     }
 }

@@ -1,5 +1,4 @@
-use Rattle.std.proofs.Common.{Err, ◌∙◌}
-use Rattle.omxrun.proofs.Complete.{not-done}
+use Rattle.std.proofs.Common.{Err}
 use Rattle.omxrun.proofs.Outcomes.{read-outcome, unread-outcome}
 use Rattle.omxrun.proofs.play.play_file.Goals as goal
 
@@ -11,11 +10,3 @@ returns-in-Ok-clause-played g c =
 pub returns-in-Err-clause-played : goal.returns-in-Err-clause-played
 returns-in-Err-clause-played g c =
     (Err c.in-Err.fault, unread-outcome c.args.name.now c.args.log.now (g.M.Media.outside c.args.media.now) (g.M.Media.outside c.script_of.new.media) c.in-Err.fault c.script_of.ensures.kept c.in-Err.ensures.reason c.in-Err.ensures.unabsent, c.report.ensures.reported)
-
-pub returns-in-Ok-clause-told : goal.returns-in-Ok-clause-told
-returns-in-Ok-clause-told g c = λ ok tells.
-    let W = c.in-Ok.ensures.read in
-    (c.in-Ok.script, record { bytes = W.text; held = W.held tells; is = W.is }, c.play_read.ensures.told ok ((W.goes_on).tells ∙ tells))
-
-pub returns-in-Err-clause-told : goal.returns-in-Err-clause-told
-returns-in-Err-clause-told g c = λ ok tells. absurd (not-done c.in-Err.fault _ _ _ _ _ c.report.result c.report.ensures.reported ok)

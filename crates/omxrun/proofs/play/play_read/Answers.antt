@@ -7,13 +7,12 @@ use Rattle.play_course.specs.Settling.{parts_of}
 use Rattle.play_course.specs.Sums.{line_value}
 use Rattle.omxrun.specs.Reports.{IsPrinted}
 use Rattle.omxrun.proofs.Absences.{undone-told}
-use Rattle.omxrun.proofs.Complete.{not-done}
 use Rattle.omxrun.proofs.Outcomes.{sinks-few}
 use Rattle.omxrun.proofs.play.play_read.Goals as goal
 
 pub text_of_play-text-requires : goal.text_of_play-text-requires
 text_of_play-text-requires g c =
-    let few = sinks-few c.args.script.now c.args.log.now (g.M.Media.outside c.args.media.now) (g.M.Media.outside c.play_script.new.media) c.in-Ok.summary c.in-Ok.ensures.done in
+    let few = sinks-few c.args.script.now c.args.log.now (g.M.Media.outside c.args.media.now) (g.M.Media.outside c.play_by.new.media) c.in-Ok.summary c.in-Ok.ensures.done in
     let long = ap length c.sinks.ensures in
     let same = length-map c.sinks.result.now line_value in
     omega (arith, few, long, same)
@@ -31,11 +30,5 @@ returns-in-Ok-clause-played g c =
 
 pub returns-in-Err-clause-played : goal.returns-in-Err-clause-played
 returns-in-Err-clause-played g c =
-    let told = undone-told c.args.script.now c.args.log.now (g.M.Media.outside c.args.media.now) (g.M.Media.outside c.play_script.new.media) c.in-Err.undone c.in-Err.ensures.undone in
+    let told = undone-told c.args.script.now c.args.log.now (g.M.Media.outside c.args.media.now) (g.M.Media.outside c.play_by.new.media) c.in-Err.undone c.in-Err.ensures.undone in
     (Err c.in-Err.undone, record { done = tt; unabsent = told; stand = tt; undone = c.in-Err.ensures.undone }, c.report.ensures.reported)
-
-pub returns-in-Ok-clause-told : goal.returns-in-Ok-clause-told
-returns-in-Ok-clause-told g c = λ ok tells. c.in-Ok.ensures.told tells
-
-pub returns-in-Err-clause-told : goal.returns-in-Err-clause-told
-returns-in-Err-clause-told g c = λ ok tells. absurd (not-done c.in-Err.undone _ _ _ _ _ c.report.result c.report.ensures.reported ok)

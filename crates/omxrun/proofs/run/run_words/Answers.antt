@@ -1,7 +1,7 @@
 use Rattle.std.proofs.Common.{map, string_bytes, refl}
 use Rattle.omxrun.specs.Words.{to_trace, to_play, to_make, to_clock, to_pack, to_unpack, asked_by}
 use Rattle.omxrun.proofs.Clocks.{complete_clock, unclocked}
-use Rattle.omxrun.proofs.Commands.{run-asked, unbuilt-run}
+use Rattle.omxrun.proofs.Commands.{run-asked}
 use Rattle.omxrun.proofs.Makes.{complete_make}
 use Rattle.omxrun.proofs.PlayEnds.{complete, faulty, misfitted, unplanned, unread}
 use Rattle.omxrun.proofs.TurnEnds.{complete_pack, complete_unpack}
@@ -10,14 +10,11 @@ use Rattle.omxrun.proofs.run.run_words.Goals as goal
 
 -- ---- words that are none of the forms
 
-pub returns-in-None-clause-unbuilt : goal.returns-in-None-clause-unbuilt
-returns-in-None-clause-unbuilt g c = λ asked words unbuilt. absurd (c.in-None.ensures.none asked words)
-
 pub returns-in-None-clause-trace : goal.returns-in-None-clause-trace
 returns-in-None-clause-trace g c = λ script words. absurd (c.in-None.ensures.none (to_trace script) words)
 
 pub returns-in-None-clause-play : goal.returns-in-None-clause-play
-returns-in-None-clause-play g c = λ script workers log asked. absurd (c.in-None.ensures.none (to_play script workers log) asked.0)
+returns-in-None-clause-play g c = λ script workers log asked. absurd (c.in-None.ensures.none (to_play script workers log) asked)
 
 pub returns-in-None-clause-make : goal.returns-in-None-clause-make
 returns-in-None-clause-make g c = λ seed frames folder words. absurd (c.in-None.ensures.none (to_make seed frames folder) words)
@@ -29,19 +26,19 @@ pub returns-in-None-clause-complete_trace : goal.returns-in-None-clause-complete
 returns-in-None-clause-complete_trace g c = λ script words none can. absurd (c.in-None.ensures.none (to_trace script) words)
 
 pub returns-in-None-clause-faulty : goal.returns-in-None-clause-faulty
-returns-in-None-clause-faulty g c = λ script workers log line fault asked none has. absurd (c.in-None.ensures.none (to_play script workers log) asked.0)
+returns-in-None-clause-faulty g c = λ script workers log line fault asked none has. absurd (c.in-None.ensures.none (to_play script workers log) asked)
 
 pub returns-in-None-clause-unread : goal.returns-in-None-clause-unread
-returns-in-None-clause-unread g c = λ script workers log line why asked none has. absurd (c.in-None.ensures.none (to_play script workers log) asked.0)
+returns-in-None-clause-unread g c = λ script workers log line why asked none has. absurd (c.in-None.ensures.none (to_play script workers log) asked)
 
 pub returns-in-None-clause-unplanned : goal.returns-in-None-clause-unplanned
-returns-in-None-clause-unplanned g c = λ script workers log why asked none has. absurd (c.in-None.ensures.none (to_play script workers log) asked.0)
+returns-in-None-clause-unplanned g c = λ script workers log why asked none has. absurd (c.in-None.ensures.none (to_play script workers log) asked)
 
 pub returns-in-None-clause-misfitted : goal.returns-in-None-clause-misfitted
-returns-in-None-clause-misfitted g c = λ script workers log why asked none has. absurd (c.in-None.ensures.none (to_play script workers log) asked.0)
+returns-in-None-clause-misfitted g c = λ script workers log why asked none has. absurd (c.in-None.ensures.none (to_play script workers log) asked)
 
 pub returns-in-None-clause-complete : goal.returns-in-None-clause-complete
-returns-in-None-clause-complete g c = λ script workers log asked none can. absurd (c.in-None.ensures.none (to_play script workers log) asked.0)
+returns-in-None-clause-complete g c = λ script workers log asked none can. absurd (c.in-None.ensures.none (to_play script workers log) asked)
 
 pub returns-in-None-clause-complete_make : goal.returns-in-None-clause-complete_make
 returns-in-None-clause-complete_make g c = λ seed frames folder words none can. absurd (c.in-None.ensures.none (to_make seed frames folder) words)
@@ -72,18 +69,13 @@ returns-in-None-clause-complete_unpack g c = λ input output answer words none c
 pub returns-in-Some-clause-usage : goal.returns-in-Some-clause-usage
 returns-in-Some-clause-usage g c = λ none. absurd (none (asked_by c.in-Some.command) c.in-Some.ensures.some)
 
-pub returns-in-Some-clause-unbuilt : goal.returns-in-Some-clause-unbuilt
-returns-in-Some-clause-unbuilt g c = λ asked words unbuilt.
-    unbuilt-run asked (g.M.Media.outside c.args.media.now) (g.M.Media.outside c.run_command.new.media) (g.O.Sink.told c.args.out.now) (g.O.Sink.told c.run_command.new.out) (g.O.Sink.faults c.args.out.now) (g.O.Sink.faults c.run_command.new.out) c.run_command.result unbuilt
-    (run-asked (map string_bytes c.args.words.now) asked (g.M.Media.outside c.args.media.now) (g.M.Media.outside c.run_command.new.media) (g.O.Sink.told c.args.out.now) (g.O.Sink.told c.run_command.new.out) (g.O.Sink.faults c.args.out.now) (g.O.Sink.faults c.run_command.new.out) c.run_command.result (asked_by c.in-Some.command) c.in-Some.ensures.some c.run_command.ensures.run words)
-
 pub returns-in-Some-clause-trace : goal.returns-in-Some-clause-trace
 returns-in-Some-clause-trace g c = λ script words.
     run-asked (map string_bytes c.args.words.now) (to_trace script) (g.M.Media.outside c.args.media.now) (g.M.Media.outside c.run_command.new.media) (g.O.Sink.told c.args.out.now) (g.O.Sink.told c.run_command.new.out) (g.O.Sink.faults c.args.out.now) (g.O.Sink.faults c.run_command.new.out) c.run_command.result (asked_by c.in-Some.command) c.in-Some.ensures.some c.run_command.ensures.run words
 
 pub returns-in-Some-clause-play : goal.returns-in-Some-clause-play
 returns-in-Some-clause-play g c = λ script workers log asked.
-    (run-asked (map string_bytes c.args.words.now) (to_play script workers log) (g.M.Media.outside c.args.media.now) (g.M.Media.outside c.run_command.new.media) (g.O.Sink.told c.args.out.now) (g.O.Sink.told c.run_command.new.out) (g.O.Sink.faults c.args.out.now) (g.O.Sink.faults c.run_command.new.out) c.run_command.result (asked_by c.in-Some.command) c.in-Some.ensures.some c.run_command.ensures.run asked.0).0 asked.1
+    run-asked (map string_bytes c.args.words.now) (to_play script workers log) (g.M.Media.outside c.args.media.now) (g.M.Media.outside c.run_command.new.media) (g.O.Sink.told c.args.out.now) (g.O.Sink.told c.run_command.new.out) (g.O.Sink.faults c.args.out.now) (g.O.Sink.faults c.run_command.new.out) c.run_command.result (asked_by c.in-Some.command) c.in-Some.ensures.some c.run_command.ensures.run asked
 
 pub returns-in-Some-clause-make : goal.returns-in-Some-clause-make
 returns-in-Some-clause-make g c = λ seed frames folder words.
@@ -101,27 +93,27 @@ returns-in-Some-clause-complete_trace g c = λ script words none can.
 
 pub returns-in-Some-clause-unread : goal.returns-in-Some-clause-unread
 returns-in-Some-clause-unread g c = λ script workers log line why asked none has.
-    let played = (run-asked (map string_bytes c.args.words.now) (to_play script workers log) (g.M.Media.outside c.args.media.now) (g.M.Media.outside c.run_command.new.media) (g.O.Sink.told c.args.out.now) (g.O.Sink.told c.run_command.new.out) (g.O.Sink.faults c.args.out.now) (g.O.Sink.faults c.run_command.new.out) c.run_command.result (asked_by c.in-Some.command) c.in-Some.ensures.some c.run_command.ensures.run asked.0).0 asked.1 in
+    let played = run-asked (map string_bytes c.args.words.now) (to_play script workers log) (g.M.Media.outside c.args.media.now) (g.M.Media.outside c.run_command.new.media) (g.O.Sink.told c.args.out.now) (g.O.Sink.told c.run_command.new.out) (g.O.Sink.faults c.args.out.now) (g.O.Sink.faults c.run_command.new.out) c.run_command.result (asked_by c.in-Some.command) c.in-Some.ensures.some c.run_command.ensures.run asked in
     unread c.one_play.ensures.same script log (g.M.Media.outside c.args.media.now) (g.M.Media.outside c.run_command.new.media) (g.O.Sink.faults c.args.out.now) (g.O.Sink.faults c.run_command.new.out) (g.O.Sink.told c.args.out.now) (g.O.Sink.told c.run_command.new.out) line why played.0 c.run_command.result played.1 played.2 none has
 
 pub returns-in-Some-clause-unplanned : goal.returns-in-Some-clause-unplanned
 returns-in-Some-clause-unplanned g c = λ script workers log why asked none has.
-    let played = (run-asked (map string_bytes c.args.words.now) (to_play script workers log) (g.M.Media.outside c.args.media.now) (g.M.Media.outside c.run_command.new.media) (g.O.Sink.told c.args.out.now) (g.O.Sink.told c.run_command.new.out) (g.O.Sink.faults c.args.out.now) (g.O.Sink.faults c.run_command.new.out) c.run_command.result (asked_by c.in-Some.command) c.in-Some.ensures.some c.run_command.ensures.run asked.0).0 asked.1 in
+    let played = run-asked (map string_bytes c.args.words.now) (to_play script workers log) (g.M.Media.outside c.args.media.now) (g.M.Media.outside c.run_command.new.media) (g.O.Sink.told c.args.out.now) (g.O.Sink.told c.run_command.new.out) (g.O.Sink.faults c.args.out.now) (g.O.Sink.faults c.run_command.new.out) c.run_command.result (asked_by c.in-Some.command) c.in-Some.ensures.some c.run_command.ensures.run asked in
     unplanned c.one_play.ensures.same c.law_of_plans.ensures.planned c.law_of_plans.ensures.first script log (g.M.Media.outside c.args.media.now) (g.M.Media.outside c.run_command.new.media) (g.O.Sink.faults c.args.out.now) (g.O.Sink.faults c.run_command.new.out) (g.O.Sink.told c.args.out.now) (g.O.Sink.told c.run_command.new.out) why played.0 c.run_command.result played.1 played.2 none has
 
 pub returns-in-Some-clause-faulty : goal.returns-in-Some-clause-faulty
 returns-in-Some-clause-faulty g c = λ script workers log line fault asked none has.
-    let played = (run-asked (map string_bytes c.args.words.now) (to_play script workers log) (g.M.Media.outside c.args.media.now) (g.M.Media.outside c.run_command.new.media) (g.O.Sink.told c.args.out.now) (g.O.Sink.told c.run_command.new.out) (g.O.Sink.faults c.args.out.now) (g.O.Sink.faults c.run_command.new.out) c.run_command.result (asked_by c.in-Some.command) c.in-Some.ensures.some c.run_command.ensures.run asked.0).0 asked.1 in
+    let played = run-asked (map string_bytes c.args.words.now) (to_play script workers log) (g.M.Media.outside c.args.media.now) (g.M.Media.outside c.run_command.new.media) (g.O.Sink.told c.args.out.now) (g.O.Sink.told c.run_command.new.out) (g.O.Sink.faults c.args.out.now) (g.O.Sink.faults c.run_command.new.out) c.run_command.result (asked_by c.in-Some.command) c.in-Some.ensures.some c.run_command.ensures.run asked in
     faulty c.one_play.ensures.same c.one_answer.ensures.same c.law_of_plans.ensures.planned script log (g.M.Media.outside c.args.media.now) (g.M.Media.outside c.run_command.new.media) (g.O.Sink.faults c.args.out.now) (g.O.Sink.faults c.run_command.new.out) (g.O.Sink.told c.args.out.now) (g.O.Sink.told c.run_command.new.out) line fault played.0 c.run_command.result played.1 played.2 none has
 
 pub returns-in-Some-clause-misfitted : goal.returns-in-Some-clause-misfitted
 returns-in-Some-clause-misfitted g c = λ script workers log why asked none has.
-    let played = (run-asked (map string_bytes c.args.words.now) (to_play script workers log) (g.M.Media.outside c.args.media.now) (g.M.Media.outside c.run_command.new.media) (g.O.Sink.told c.args.out.now) (g.O.Sink.told c.run_command.new.out) (g.O.Sink.faults c.args.out.now) (g.O.Sink.faults c.run_command.new.out) c.run_command.result (asked_by c.in-Some.command) c.in-Some.ensures.some c.run_command.ensures.run asked.0).0 asked.1 in
+    let played = run-asked (map string_bytes c.args.words.now) (to_play script workers log) (g.M.Media.outside c.args.media.now) (g.M.Media.outside c.run_command.new.media) (g.O.Sink.told c.args.out.now) (g.O.Sink.told c.run_command.new.out) (g.O.Sink.faults c.args.out.now) (g.O.Sink.faults c.run_command.new.out) c.run_command.result (asked_by c.in-Some.command) c.in-Some.ensures.some c.run_command.ensures.run asked in
     misfitted c.one_play.ensures.same c.one_answer.ensures.same c.law_of_plans.ensures.planned c.law_of_plans.ensures.fit c.law_of_plans.ensures.misfit script log (g.M.Media.outside c.args.media.now) (g.M.Media.outside c.run_command.new.media) (g.O.Sink.faults c.args.out.now) (g.O.Sink.faults c.run_command.new.out) (g.O.Sink.told c.args.out.now) (g.O.Sink.told c.run_command.new.out) why played.0 c.run_command.result played.1 played.2 none has
 
 pub returns-in-Some-clause-complete : goal.returns-in-Some-clause-complete
 returns-in-Some-clause-complete g c = λ script workers log asked none has.
-    let played = (run-asked (map string_bytes c.args.words.now) (to_play script workers log) (g.M.Media.outside c.args.media.now) (g.M.Media.outside c.run_command.new.media) (g.O.Sink.told c.args.out.now) (g.O.Sink.told c.run_command.new.out) (g.O.Sink.faults c.args.out.now) (g.O.Sink.faults c.run_command.new.out) c.run_command.result (asked_by c.in-Some.command) c.in-Some.ensures.some c.run_command.ensures.run asked.0).0 asked.1 in
+    let played = run-asked (map string_bytes c.args.words.now) (to_play script workers log) (g.M.Media.outside c.args.media.now) (g.M.Media.outside c.run_command.new.media) (g.O.Sink.told c.args.out.now) (g.O.Sink.told c.run_command.new.out) (g.O.Sink.faults c.args.out.now) (g.O.Sink.faults c.run_command.new.out) c.run_command.result (asked_by c.in-Some.command) c.in-Some.ensures.some c.run_command.ensures.run asked in
     complete c.one_play.ensures.same c.one_answer.ensures.same c.law_of_plans.ensures.planned script log (g.M.Media.outside c.args.media.now) (g.M.Media.outside c.run_command.new.media) (g.O.Sink.faults c.args.out.now) (g.O.Sink.faults c.run_command.new.out) (g.O.Sink.told c.args.out.now) (g.O.Sink.told c.run_command.new.out) played.0 c.run_command.result played.1 played.2 none has
 
 pub returns-in-Some-clause-complete_make : goal.returns-in-Some-clause-complete_make
