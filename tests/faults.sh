@@ -146,7 +146,7 @@ limit = 'ulimit -c 0; ulimit -f'
 make_minute = 'omxrun make 1 480000 folder >made && rm made &&'
 # the sink is a pipe, which is opened once the source's size was looked at, and is full before the source is read up to the cut
 cut_while_played = '''mkfifo folder/out.wav
-{ omxrun play folder/mix.omx 0 log; s=$?; : >folder/out.wav; exit $s; } & exec 4<folder/out.wav
+{ omxrun play folder/mix.omx $workers log; s=$?; : >folder/out.wav; exit $s; } & exec 4<folder/out.wav
 truncate -s 500001 folder/a.wav; cat <&4 >got; wait $!; s=$?; rm folder/out.wav; exit $s'''
 # a pipe whose reader has ended
 unheard = 'exec 3> >(true); wait $!;'
@@ -201,13 +201,18 @@ cases = [
     ('a leading zero', 'omxrun play short.omx 00 log', usage, {}),
     ('a log that is the script', 'omxrun play short.omx 0 short.omx', usage, {}),
     ('too many frames', 'omxrun make 1 33000001 folder', usage, {}),
-    ('a worker', 'omxrun play short.omx 1 log', ('not built: words\n', 10), {}),
+    ('a worker', 'omxrun play short.omx 1 log', ('sink b 3 frames 50 bytes\nok\n', 0), {'out.wav': short, 'log': ends}),
+    ('a source that is absent, by two workers', 'omxrun play from-none.omx 2 log', ('absent: line 2\n', 6), {}),
+    ('a long sink on a full disk, by two workers', 'omxrun play long-to-full.omx 2 log', unwritten, {}),
+    ('a log on a full disk, by two workers', 'omxrun play short.omx 2 /dev/full', unwritten, {'out.wav': short}),
     ('a late source', 'omxrun play late.omx 0 log', ('sink b 3 frames 50 bytes\nok\n', 0),
      {'out.wav': short, 'log': tells_settings_once}),
     *[cut(size) for size in range(51)],
     ('a long play', 'omxrun play long.omx 0 log', ('sink b 100000 frames 200044 bytes\nok\n', 0),
      {'out.wav': long, 'log': ends}),
     ('all blocks', 'omxrun play all-blocks.omx 0 log', ('sink b 3 frames 50 bytes\nok\n', 0), {'out.wav': zeros, 'log': ends}),
+    ('all blocks by eight workers', 'omxrun play all-blocks.omx 8 log', ('sink b 3 frames 50 bytes\nok\n', 0),
+     {'out.wav': zeros, 'log': ends}),
     ('made inputs', 'omxrun make 1 1 folder', ('made 1 frames\n', 0),
      {'folder/a.wav': made(1, 1), 'folder/b.wav': made(2, 1), 'folder/mix.omx': mix}),
     ('the greatest seed', 'omxrun make 18446744073709551615 1000 folder', ('made 1000 frames\n', 0),
@@ -217,11 +222,16 @@ cases = [
      {'folder/a.wav': made(1, 1), 'folder/b.wav': made(2, 1), 'folder/mix.omx': mix, 'folder/out.wav': code, 'log': ends}),
     ('a made minute', f'{make_minute} omxrun play folder/mix.omx 0 log', ('sink s 480000 frames 480058 bytes\nok\n', 0),
      minute | {'folder/mix.omx': mix, 'folder/out.wav': minute_out, 'log': ends}),
+    ('a made minute by four workers', f'{make_minute} omxrun play folder/mix.omx 4 log', ('sink s 480000 frames 480058 bytes\nok\n', 0),
+     minute | {'folder/mix.omx': mix, 'folder/out.wav': minute_out, 'log': ends}),
     ('a made minute whose log is on a full disk', f'{make_minute} omxrun play folder/mix.omx 0 /dev/full', unwritten,
      minute | {'folder/mix.omx': mix, 'folder/out.wav': minute_out}),
     ('a made minute without its second file', f'{make_minute} rm folder/b.wav; omxrun play folder/mix.omx 0 log',
      ('absent: line 3\n', 6), {'folder/a.wav': minute['folder/a.wav'], 'folder/mix.omx': mix}),
-    ('a made minute whose first file is cut while it is played', f'{make_minute} {cut_while_played}',
+    ('a made minute whose first file is cut while it is played', f'{make_minute} workers=0; {cut_while_played}',
+     ('short: line 2 at 500001 of 960044\n', 8),
+     minute | {'folder/a.wav': minute['folder/a.wav'][:500001], 'folder/mix.omx': mix, 'got': is_front_of_minute}),
+    ('a made minute whose first file is cut while four workers play it', f'{make_minute} workers=4; {cut_while_played}',
      ('short: line 2 at 500001 of 960044\n', 8),
      minute | {'folder/a.wav': minute['folder/a.wav'][:500001], 'folder/mix.omx': mix, 'got': is_front_of_minute}),
     ('inputs in no folder', 'omxrun make 1 1 none', ('absent: made 1\n', 6), {}),

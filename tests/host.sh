@@ -1,7 +1,8 @@
 #!/usr/bin/env bash
 # Plays three samples, and a made minute, with the built program over a host one of whose calls on one file fails, or whose file ends
-# before its size, and compares what is printed, the status, the sink and the log with what the rules say. The earlier log stays
-# where none is made. Needs a C compiler for the small library that fails. Its last line is 'host: N passed, M failed'.
+# before its size, without workers and with three, and compares what is printed, the status, the sink and the log with what the rules
+# say. The earlier log stays where none is made. Needs a C compiler for the small library that fails.
+# Its last line is 'host: N passed, M failed'.
 . "$(dirname "${BASH_SOURCE[0]}")/program.sh"
 if ! command -v cc >/dev/null; then
   echo 'host: not run, there is no cc'
@@ -11,7 +12,7 @@ room=$(mktemp -d)
 trap 'rm -rf "$room"' EXIT
 cc -O1 -shared -fPIC -o "$room/fail.so" "$top/tests/host/fail.c" -ldl
 python3 - "$top" "$program" "$room" <<'PY'
-import os, shutil, subprocess, sys
+import itertools, os, shutil, subprocess, sys
 
 top, program, room = sys.argv[1:]
 earlier = b'an earlier log\n'
@@ -27,7 +28,7 @@ def short(place, size):
 
 
 # the play; the kind of the call that fails, its number or the place of the end, and the file; what is told; and what the sink's
-# file may be afterwards
+# file may be afterwards, which isn't begun where a source's worker is ahead
 cases = [
     ('three', 'open', 1, 'in.wav', unread, absent),
     ('three', 'read', 1, 'in.wav', unread, absent),
@@ -44,13 +45,13 @@ cases = [
 ]
 
 
-def play(folder, script, fault=None):
+def play(folder, script, workers=0, fault=None):
     """What the play in a folder prints and its status, and the log."""
     with open(f'{folder}/log', 'wb') as log:
         log.write(earlier)
     failing = {} if fault is None else {'LD_PRELOAD': f'{room}/fail.so', 'FAIL_KIND': fault[0], 'FAIL_NUMBER': str(fault[1]),
                                         'FAIL_NAME': fault[2]}
-    ran = subprocess.run([program, 'play', script, '0', 'log'], cwd=folder, env=os.environ | failing, stdin=subprocess.DEVNULL,
+    ran = subprocess.run([program, 'play', script, str(workers), 'log'], cwd=folder, env=os.environ | failing, stdin=subprocess.DEVNULL,
                          stdout=subprocess.PIPE, stderr=subprocess.DEVNULL, timeout=60)
     return (ran.stdout, ran.returncode), open(f'{folder}/log', 'rb').read()
 
@@ -82,19 +83,21 @@ for name, (script, sink) in scripts.items():
     if status != 0 or not log.endswith(b'\nend\n'):
         bad += 1
         print(f'{name}: {printed!r}, status {status}')
-for name, kind, number, file, told, left in cases:
+for (name, kind, number, file, told, left), workers in itertools.product(cases, (0, 3)):
     script, sink = scripts[name]
     if os.path.exists(f'{room}/{name}/{sink}'):
         os.remove(f'{room}/{name}/{sink}')
-    got, log = play(f'{room}/{name}', script, (kind, number, file))
+    got, log = play(f'{room}/{name}', script, workers, (kind, number, file))
     has = extent(content(f'{room}/{name}/{sink}'), sinks[name])
-    # a log that was opened has a front of its text
-    is_kept = logs[name].startswith(log) if (kind, file) == ('write', 'log') else log == earlier
-    if got == told and has in left and is_kept:
+    is_left = has in left or (workers > 0 and left == begun and has == 'empty')
+    # a log that was opened has a front of its text, which by workers has another order behind its first line
+    known = len(log) if workers == 0 else logs[name].index(b'\n')
+    is_kept = logs[name].startswith(log[:known]) if (kind, file) == ('write', 'log') else log == earlier
+    if got == told and is_left and is_kept:
         good += 1
     else:
         bad += 1
-        print(f'{name}, {kind} {number} of {file}: wanted {told}, {left}, got {got}, {has}, and the log {log[:20]!r}')
+        print(f'{name}, {kind} {number} of {file}, {workers} workers: wanted {told}, {left}, got {got}, {has}, and the log {log[:20]!r}')
 print(f'host: {good} passed, {bad} failed')
 sys.exit(bad > 0)
 PY

@@ -1,5 +1,5 @@
-// Loaded before a program: the allocation whose number FAIL_ALLOC names is refused, and how many were asked for is written to the file that
-// COUNT_ALLOC names.
+// Loaded before a program: the allocation whose number FAIL_ALLOC names, of whichever thread, is refused, and how many were asked for is
+// written to the file that COUNT_ALLOC names.
 #define _GNU_SOURCE
 #include <dlfcn.h>
 #include <errno.h>
@@ -10,7 +10,7 @@ static unsigned long asked, refused;
 static int is_ready;
 
 static int is_refused(void) {
-    return is_ready && ++asked == refused;
+    return is_ready && __atomic_add_fetch(&asked, 1, __ATOMIC_SEQ_CST) == refused;
 }
 
 __attribute__((constructor)) static void begin(void) {
@@ -33,6 +33,15 @@ __attribute__((destructor)) static void end(void) {
 typedef void *(*one)(size_t);
 typedef void *(*two)(size_t, size_t);
 typedef void *(*again)(void *, size_t);
+
+// A program with threads ends so, without its destructors.
+void _exit(int status) {
+    typedef void (*leave)(int);
+    REAL(leave, "_exit");
+    end();
+    real(status);
+    abort();
+}
 
 void *malloc(size_t size) {
     REAL(one, "malloc");
