@@ -6,3 +6,4 @@ pub mod Holding
 pub mod Objects
 pub mod Moving
 pub mod Working
+pub mod Sinks

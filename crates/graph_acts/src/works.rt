@@ -1,5 +1,5 @@
 //! Acts by which the work of a component goes out and comes back, and its step between them.
-ghost use Rattle.std.specs.Prelude.{◌≡◌};
+ghost use Rattle.std.specs.Prelude.{◌≡◌, option_copied, IfSome};
 ghost use Rattle.audio_parts.specs.Shown.{shown_by};
 ghost use Rattle.graph_acts.specs.declared.act.Act.TheVariants as asks;
 ghost use Rattle.graph_acts.specs.Hiding.{shown_done};
@@ -7,6 +7,7 @@ ghost use Rattle.graph_acts.specs.Holding.{CanFinish};
 ghost use Rattle.graph_acts.specs.Lending.{lent_as};
 ghost use Rattle.graph_acts.specs.Moving.{Moved};
 ghost use Rattle.graph_acts.specs.Plain.{sight_of};
+ghost use Rattle.graph_acts.specs.Sinks.{sink_in};
 ghost use Rattle.graph_acts.specs.Working.{IsRunOf, out_of};
 
 use crate::act::Reply;
@@ -51,6 +52,15 @@ impl<S: Source, K: Sink> DoneWork<S, K> {
         ensures { result ≡ self.now.frames }
     {
         self.done.frames()
+    }
+
+    /// The sink that its part writes to, where it has a file.
+    pub fn sink(&self) -> Option<&K>
+        ensures sink { option_copied result ≡ sink_in self.now.part }
+        ensures kept { IfSome (sink_in self.now.part) (λ snk. (self.now.part).kept ≡ K.told snk) }
+    {
+        law_of_parts::<S, K>();
+        self.done.part().sink()
     }
 
     fn into_done(self) -> Done<S, K>
