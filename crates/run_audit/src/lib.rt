@@ -2,5 +2,11 @@
 #![tactic(auto)]
 
 mod answering;
+mod keeping;
+mod replay;
+mod returning;
+mod telling;
 
 pub use answering::{Answered, answer};
+pub use replay::{Passed, Replay};
+pub use returning::Back;
