@@ -123,6 +123,5 @@ stands-unless (Err (faults.Absent which)) before now old new text stands failed 
 stands-unless (Err faults.OutOfMemory) before now old new text stands failed other = absurd failed
 stands-unless (Err (faults.Short which at size)) before now old new text stands failed other = absurd failed
 stands-unless (Err (faults.Units have need)) before now old new text stands failed other = absurd failed
-stands-unless (Err (faults.NotBuilt what)) before now old new text stands failed other = absurd failed
 stands-unless (Err (faults.Packets why)) before now old new text stands failed other = absurd failed
 stands-unless (Err (faults.NotRun line why)) before now old new text stands failed other = absurd failed

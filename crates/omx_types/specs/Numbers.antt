@@ -50,7 +50,6 @@ fault_number (Faults.Absent which) = 6
 fault_number Faults.OutOfMemory = 7
 fault_number (Faults.Short which at size) = 8
 fault_number (Faults.Units have need) = 9
-fault_number (Faults.NotBuilt what) = 10
 fault_number (Faults.Packets why) = 11
 fault_number (Faults.NotRun line why) = 12
 

@@ -155,13 +155,6 @@ impl fmt::Display for Which {
     }
 }
 
-/// A form of words that isn't built yet.
-#[derive(Clone, Copy, Debug, PartialEq, Eq, Error)]
-pub enum Unbuilt {
-    #[error("words")]
-    Words,
-}
-
 /// Why a command of the program wasn't done whole.
 #[derive(Clone, Copy, Debug, PartialEq, Eq, Error)]
 pub enum Fault {
@@ -183,8 +176,6 @@ pub enum Fault {
     Short { which: Which, at: u64, size: u64 },
     #[error("units: have {have} need {need}")]
     Units { have: u32, need: u32 },
-    #[error("not built: {what}")]
-    NotBuilt { what: Unbuilt },
     #[error("{why}")]
     Packets { why: PacketsWhy },
     /// A line of the log, from 1.
@@ -234,7 +225,6 @@ impl Fault {
                 size: _,
             } => 8,
             Fault::Units { have: _, need: _ } => 9,
-            Fault::NotBuilt { what: _ } => 10,
             Fault::Packets { why: _ } => 11,
             Fault::NotRun { line: _, why: _ } => 12,
         }

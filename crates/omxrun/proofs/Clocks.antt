@@ -69,7 +69,6 @@ risen-fault bytes old new before mid now (Faults.Short which at size) stopped ro
 risen-fault bytes old new before mid now (Faults.Units have need) stopped rose = absurd stopped
 risen-fault bytes old new before mid now (Faults.Packets why) stopped rose = absurd stopped
 risen-fault bytes old new before mid now (Faults.NotRun line why) stopped rose = absurd stopped
-risen-fault bytes old new before mid now (Faults.NotBuilt what) stopped rose = absurd stopped
 
 pub clock-risen : (bytes : List ℕ) (old new : Option (List ℕ)) (before now : ℕ) (ran : Result (Unit {0}) Fault)
     → OnOk ran (IsScript bytes) → OnOk ran (new ≡ append_known old (clock_text bytes)) → IfErr ran (IsStopped bytes old new before now)
@@ -104,7 +103,6 @@ clock-told bytes old mid new before now later (Faults.Short which at size) statu
 clock-told bytes old mid new before now later (Faults.Units have need) status other stopped stands told = absurd stopped
 clock-told bytes old mid new before now later (Faults.Packets why) status other stopped stands told = absurd stopped
 clock-told bytes old mid new before now later (Faults.NotRun line why) status other stopped stands told = absurd stopped
-clock-told bytes old mid new before now later (Faults.NotBuilt what) status other stopped stands told = absurd stopped
 
 -- the file was read, and its bytes were run
 abbrev pub HasClocked : List ℕ → Outside → Outside → Option (List ℕ) → Option (List ℕ) → ℕ → ℕ → Status → Type 0
@@ -124,7 +122,6 @@ clock-of name bytes old new (Err (Faults.Short which at size)) text held stand r
 clock-of name bytes old new (Err (Faults.Units have need)) text held stand runs = absurd runs
 clock-of name bytes old new (Err (Faults.Packets why)) text held stand runs = absurd runs
 clock-of name bytes old new (Err (Faults.NotRun line why)) text held stand runs = absurd runs
-clock-of name bytes old new (Err (Faults.NotBuilt what)) text held stand runs = absurd runs
 
 pub clocked-of : (name bytes : List ℕ) (old new : Outside) (told told_new : Option (List ℕ)) (before now : ℕ) (status : Status) → (IsTrue old.tells → old.file name ≡ Some bytes) → new.file ≡ old.file → CountsStand old new → AbsencesStand old new → HasRunTo bytes told told_new before now status → HasClocked name old new told told_new before now status
 clocked-of name bytes old new told told_new before now status held kept stand absences (outcome, text, runs, printed) =
@@ -162,7 +159,6 @@ left-fault name bytes old new Faults.WriteFault tells given none reason = absurd
 left-fault name bytes old new (Faults.Units have need) tells given none reason = absurd reason
 left-fault name bytes old new (Faults.Packets why) tells given none reason = absurd reason
 left-fault name bytes old new (Faults.NotRun line why) tells given none reason = absurd reason
-left-fault name bytes old new (Faults.NotBuilt what) tells given none reason = absurd reason
 
 no-fault : (bytes : List ℕ) (line : ℕ) (why : ScriptWhy) → IsScript bytes → IsFaulty bytes line why → ⊥
 no-fault bytes line why (lines, begun, good) faulty = script-no_fault bytes lines line why begun good faulty

@@ -51,7 +51,6 @@ sink-late line name old new (Faults.Absent which) is early = not-script which li
 sink-late line name old new Faults.OutOfMemory is early = early
 sink-late line name old new (Faults.Short which at size) is early = is
 sink-late line name old new (Faults.Units have need) is early = is
-sink-late line name old new (Faults.NotBuilt what) is early = is
 sink-late line name old new (Faults.Packets reason) is early = is
 sink-late line name old new (Faults.NotRun at_line reason) is early = is
 
@@ -65,7 +64,6 @@ run-late parts old new (Faults.Absent which) is early = is
 run-late parts old new Faults.OutOfMemory is early = early
 run-late parts old new (Faults.Short which at size) is early = (let (place, part, name, there, reads, which_is, short, behind) = is.1 in not-short which part.line at size which_is early)
 run-late parts old new (Faults.Units have need) is early = is
-run-late parts old new (Faults.NotBuilt what) is early = is
 run-late parts old new (Faults.Packets reason) is early = is
 run-late parts old new (Faults.NotRun at_line reason) is early = is
 
@@ -79,7 +77,6 @@ log-late log old new (Faults.Absent which) is early = not-log which is.0 early
 log-late log old new Faults.OutOfMemory is early = early
 log-late log old new (Faults.Short which at size) is early = is
 log-late log old new (Faults.Units have need) is early = is
-log-late log old new (Faults.NotBuilt what) is early = is
 log-late log old new (Faults.Packets reason) is early = is
 log-late log old new (Faults.NotRun at_line reason) is early = is
 

@@ -35,7 +35,6 @@ make-fault folder old new before now (Faults.Short which at size) none can is = 
 make-fault folder old new before now (Faults.Units have need) none can is = absurd is
 make-fault folder old new before now (Faults.Packets why) none can is = absurd is
 make-fault folder old new before now (Faults.NotRun line why) none can is = absurd is
-make-fault folder old new before now (Faults.NotBuilt what) none can is = absurd is
 
 pub complete_make : (seed frames : ℕ) (folder : List ℕ) (old new : Outside) (before now : ℕ) (told told_new : Option (List ℕ)) (outcome : Result Done Fault) (status : Status) → IsMakeOutcome seed frames folder old new outcome → IsReported outcome told told_new before now status → IsFaultless old new before now → CanMake folder old → IsOrMemory status Statuses.Ok
 complete_make seed frames folder old new before now told told_new (Ok done) status is printed none can = inl (told-status (Ok done) told told_new before now status none.print printed)

@@ -305,7 +305,6 @@ whole-alone (Err (Faults.Script line why)) reads writes is whole = absurd whole
 whole-alone (Err Faults.Usage) reads writes is whole = absurd whole
 whole-alone (Err (Faults.Units have need)) reads writes is whole = absurd whole
 whole-alone (Err (Faults.NotRun line why)) reads writes is whole = absurd whole
-whole-alone (Err (Faults.NotBuilt what)) reads writes is whole = absurd whole
 
 -- what closing both files said of the counts
 pub record IsShutAlone (mid new : Outside) (ran outcome : Result Done Fault) (reads writes : ℕ) : Type 0 where
@@ -346,7 +345,6 @@ alone-of old mid new ran (Faults.Script line why) reads writes stand is closing 
 alone-of old mid new ran Faults.Usage reads writes stand is closing unread unwritten = tt
 alone-of old mid new ran (Faults.Units have need) reads writes stand is closing unread unwritten = tt
 alone-of old mid new ran (Faults.NotRun line why) reads writes stand is closing unread unwritten = tt
-alone-of old mid new ran (Faults.NotBuilt what) reads writes stand is closing unread unwritten = tt
 
 pub shut-alone : (old mid new : Outside) (ran outcome : Result Done Fault) (reads writes : ℕ) → CountsStand old mid → RanAlone ran reads writes → IsShutAlone mid new ran outcome reads writes → IfErr outcome (IsAlone old new)
 shut-alone old mid new ran (Ok done) reads writes stand is shut = tt

@@ -107,7 +107,6 @@ sound-last once line name old new (Faults.Absent which) tells calm (bytes, head,
 sound-last once line name old new Faults.OutOfMemory tells calm (bytes, head, given, reads) is = refl
 sound-last once line name old new (Faults.Short which at size) tells calm (bytes, head, given, reads) is = absurd (short-given old name bytes at size given tells is.1)
 sound-last once line name old new (Faults.Units have need) tells calm (bytes, head, given, reads) is = absurd is
-sound-last once line name old new (Faults.NotBuilt what) tells calm (bytes, head, given, reads) is = absurd is
 sound-last once line name old new (Faults.Packets reason) tells calm (bytes, head, given, reads) is = absurd is
 sound-last once line name old new (Faults.NotRun at_line reason) tells calm (bytes, head, given, reads) is = absurd is
 
@@ -124,7 +123,6 @@ faulty-last once line name bytes bad old new (Faults.Absent which) tells calm gi
 faulty-last once line name bytes bad old new Faults.OutOfMemory tells calm given reads is = inr refl
 faulty-last once line name bytes bad old new (Faults.Short which at size) tells calm given reads is = absurd (short-given old name bytes at size given tells is.1)
 faulty-last once line name bytes bad old new (Faults.Units have need) tells calm given reads is = absurd is
-faulty-last once line name bytes bad old new (Faults.NotBuilt what) tells calm given reads is = absurd is
 faulty-last once line name bytes bad old new (Faults.Packets reason) tells calm given reads is = absurd is
 faulty-last once line name bytes bad old new (Faults.NotRun at_line reason) tells calm given reads is = absurd is
 
@@ -138,7 +136,6 @@ sink-last line name old new (Faults.Absent which) calm let_in is = absurd (true-
 sink-last line name old new Faults.OutOfMemory calm let_in is = refl
 sink-last line name old new (Faults.Short which at size) calm let_in is = absurd is
 sink-last line name old new (Faults.Units have need) calm let_in is = absurd is
-sink-last line name old new (Faults.NotBuilt what) calm let_in is = absurd is
 sink-last line name old new (Faults.Packets reason) calm let_in is = absurd is
 sink-last line name old new (Faults.NotRun at_line reason) calm let_in is = absurd is
 
@@ -152,7 +149,6 @@ log-last log old new (Faults.Absent which) calm let_in is = absurd (true-false (
 log-last log old new Faults.OutOfMemory calm let_in is = refl
 log-last log old new (Faults.Short which at size) calm let_in is = absurd is
 log-last log old new (Faults.Units have need) calm let_in is = absurd is
-log-last log old new (Faults.NotBuilt what) calm let_in is = absurd is
 log-last log old new (Faults.Packets reason) calm let_in is = absurd is
 log-last log old new (Faults.NotRun at_line reason) calm let_in is = absurd is
 
@@ -177,7 +173,6 @@ run-last parts old new (Faults.Short which at size) calm given is =
     let all = g.whole in
     absurd (omega (arith, end, whole, below, all)))
 run-last parts old new (Faults.Units have need) calm given is = absurd is
-run-last parts old new (Faults.NotBuilt what) calm given is = absurd is
 run-last parts old new (Faults.Packets reason) calm given is = absurd is
 run-last parts old new (Faults.NotRun at_line reason) calm given is = absurd is
 
@@ -214,7 +209,6 @@ script-last once name log old new script (Faults.Short (Files.Made number) at si
 script-last once name log old new script (Faults.Short Files.Input at size) calm asked is = absurd is
 script-last once name log old new script (Faults.Short Files.Output at size) calm asked is = absurd is
 script-last once name log old new script (Faults.Units have need) calm asked is = absurd is
-script-last once name log old new script (Faults.NotBuilt what) calm asked is = absurd is
 script-last once name log old new script (Faults.Packets reason) calm asked is = absurd is
 script-last once name log old new script (Faults.NotRun at_line reason) calm asked is = absurd is
 
@@ -245,7 +239,6 @@ unread-last once name log old new line bad (Faults.Short (Files.Made number) at 
 unread-last once name log old new line bad (Faults.Short Files.Input at size) calm has is = absurd is
 unread-last once name log old new line bad (Faults.Short Files.Output at size) calm has is = absurd is
 unread-last once name log old new line bad (Faults.Units have need) calm has is = absurd is
-unread-last once name log old new line bad (Faults.NotBuilt what) calm has is = absurd is
 unread-last once name log old new line bad (Faults.Packets reason) calm has is = absurd is
 unread-last once name log old new line bad (Faults.NotRun at_line reason) calm has is = absurd is
 

@@ -94,7 +94,6 @@ risen-stop script old new before now (Faults.Short which at size) stopped rose =
 risen-stop script old new before now (Faults.Units have need) stopped rose = absurd stopped
 risen-stop script old new before now (Faults.Packets why) stopped rose = absurd stopped
 risen-stop script old new before now (Faults.NotRun line why) stopped rose = absurd stopped
-risen-stop script old new before now (Faults.NotBuilt what) stopped rose = absurd stopped
 
 -- a trace that ended so, where the count rose
 pub told-risen : (script : Script) (old new : Option (List ℕ)) (before now : ℕ) (ended : Result (Unit {0}) Fault)
@@ -116,7 +115,6 @@ told-stopped script old new before now (Faults.Short which at size) other stoppe
 told-stopped script old new before now (Faults.Units have need) other stopped = absurd stopped
 told-stopped script old new before now (Faults.Packets why) other stopped = absurd stopped
 told-stopped script old new before now (Faults.NotRun line why) other stopped = absurd stopped
-told-stopped script old new before now (Faults.NotBuilt what) other stopped = absurd stopped
 
 -- the first lines are there, and the line of want of memory was told behind them
 pub told-memory : (script : Script) (old mid new : Option (List ℕ)) (before now later : ℕ) (status : Status) → GotLines script old mid → now ≡ before → IsPrinted (Statuses.Fault Faults.OutOfMemory) (fault_line Faults.OutOfMemory) mid new now later status → HasTold script old new before later status
@@ -175,7 +173,6 @@ left-fault name bytes old new Faults.WriteFault tells given none reason = absurd
 left-fault name bytes old new (Faults.Units have need) tells given none reason = absurd reason
 left-fault name bytes old new (Faults.Packets why) tells given none reason = absurd reason
 left-fault name bytes old new (Faults.NotRun line why) tells given none reason = absurd reason
-left-fault name bytes old new (Faults.NotBuilt what) tells given none reason = absurd reason
 
 -- a script's trace ends whole, or memory was wanting
 traced-status : (script : Script) (outcome : Result (Unit {0}) Fault) (text : List ℕ) → TracesTo script outcome text → IsOrMemory (status_of outcome) Statuses.Ok
@@ -191,7 +188,6 @@ traced-status script (Err (Faults.Short which at size)) text traces = absurd tra
 traced-status script (Err (Faults.Units have need)) text traces = absurd traces
 traced-status script (Err (Faults.Packets why)) text traces = absurd traces
 traced-status script (Err (Faults.NotRun line why)) text traces = absurd traces
-traced-status script (Err (Faults.NotBuilt what)) text traces = absurd traces
 
 abbrev pub HasTraced : List ℕ → Outside → Outside → Option (List ℕ) → Option (List ℕ) → ℕ → ℕ → Status → Type 0
 HasTraced name old new told told_new before now status =

@@ -81,7 +81,6 @@ turn-fault Gives Stops input output old new before now answer (Faults.Script lin
 turn-fault Gives Stops input output old new before now answer Faults.Usage once below none can reason = absurd reason
 turn-fault Gives Stops input output old new before now answer (Faults.Units have need) once below none can reason = absurd reason
 turn-fault Gives Stops input output old new before now answer (Faults.NotRun line why) once below none can reason = absurd reason
-turn-fault Gives Stops input output old new before now answer (Faults.NotBuilt what) once below none can reason = absurd reason
 
 turn-ends : (Gives : Giving) (Stops : Stopping) (input output : List ℕ) (old new : Outside) (before now : ℕ) (answer : Result Written Fault) (outcome : Result Done Fault) → GivesOnce Gives → StopsBelow Stops → IsFaultless old new before now → CanTurn Gives input output old answer → IsTurnOutcome Gives Stops input output old new outcome → IsOrMemory (status_of outcome) (status_of answer)
 turn-ends Gives Stops input output old new before now answer (Ok done) once below none can is =

@@ -32,7 +32,6 @@ open-reason Gives Stops input output old new (Faults.Short which at size) reason
 open-reason Gives Stops input output old new (Faults.Units have need) reason = absurd reason
 open-reason Gives Stops input output old new (Faults.Packets why) reason = absurd reason
 open-reason Gives Stops input output old new (Faults.NotRun line why) reason = absurd reason
-open-reason Gives Stops input output old new (Faults.NotBuilt what) reason = absurd reason
 
 pub at-name : (name : List ℕ) (old new : Outside) → new.file ≡ old.file → new.file name ≡ old.file name
 at-name name old new same = ap (λ (f : List ℕ → Option (List ℕ)). f name) same
@@ -122,7 +121,6 @@ move-reason Gives Stops input output old new (Faults.Script line why) reason com
 move-reason Gives Stops input output old new Faults.Usage reason comes = absurd reason
 move-reason Gives Stops input output old new (Faults.Units have need) reason comes = absurd reason
 move-reason Gives Stops input output old new (Faults.NotRun line why) reason comes = absurd reason
-move-reason Gives Stops input output old new (Faults.NotBuilt what) reason comes = absurd reason
 
 -- a fault of a move isn't one of an opening
 unopened-none : (Stops : Stopping) (input : List ℕ) (old new : Outside) (fault : Fault) → HasMoveReason Stops input old new fault → IsUnopened fault → new.file ≡ old.file
@@ -137,7 +135,6 @@ unopened-none Stops input old new (Faults.Script line why) reason early = absurd
 unopened-none Stops input old new Faults.Usage reason early = absurd early
 unopened-none Stops input old new (Faults.Units have need) reason early = absurd early
 unopened-none Stops input old new (Faults.NotRun line why) reason early = absurd early
-unopened-none Stops input old new (Faults.NotBuilt what) reason early = absurd early
 
 -- a front of what was told, which is a front of a text, is a front of it
 closed-begun : (held told : Option (List ℕ)) (text : List ℕ) → AppendsFront (Some []) told text → (held ≡ told) ⊎ WhereTold told (IsFrontOf held) → IsFrontOf held text

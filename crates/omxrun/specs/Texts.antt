@@ -13,8 +13,6 @@ use Rattle.omx_types.specs.declared.fault.PacketsWhy.{PacketsWhy}
 use Rattle.omx_types.specs.declared.fault.PacketsWhy.TheVariants as Packets
 use Rattle.omx_types.specs.declared.fault.AuditWhy.{AuditWhy}
 use Rattle.omx_types.specs.declared.fault.AuditWhy.TheVariants as Audits
-use Rattle.omx_types.specs.declared.fault.Unbuilt.{Unbuilt}
-use Rattle.omx_types.specs.declared.fault.Unbuilt.TheVariants as Unbuilts
 use Rattle.rtp_parts.specs.declared.packing.Packed.{Packed}
 use Rattle.rtp_parts.specs.declared.unpacking.Unpacked.{Unpacked}
 
@@ -68,9 +66,6 @@ audit_text Audits.OtherReply = codes "other reply"
 audit_text Audits.OtherFile = codes "other file"
 audit_text Audits.NotEnded = codes "not ended"
 
-abbrev pub unbuilt_text : Unbuilt → List ℕ
-unbuilt_text Unbuilts.Words = codes "words"
-
 -- the line of a fault, without its line feed
 abbrev pub fault_text : Fault → List ℕ
 fault_text (Faults.Script line why) = codes "script line " ++ (decimal line ++ (codes ": " ++ why_text why))
@@ -83,7 +78,6 @@ fault_text Faults.OutOfMemory = codes "out of memory"
 fault_text (Faults.Short which at size) =
     codes "short: " ++ (which_text which ++ (codes " at " ++ (decimal at ++ (codes " of " ++ decimal size))))
 fault_text (Faults.Units have need) = codes "units: have " ++ (decimal have ++ (codes " need " ++ decimal need))
-fault_text (Faults.NotBuilt what) = codes "not built: " ++ unbuilt_text what
 fault_text (Faults.Packets why) = packets_text why
 fault_text (Faults.NotRun line why) = codes "no: log line " ++ (decimal line ++ (codes ": " ++ audit_text why))
 

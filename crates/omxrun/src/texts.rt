@@ -2,10 +2,10 @@
 
 ghost use Rattle.std.specs.Prelude.{◌≡◌, ◌+◌, ◌≤◌, ◌++◌, length, codes};
 ghost use Rattle.std.specs.Fmt.{decimal};
-ghost use Rattle.omxrun.specs.Texts.{fault_text, made_text, which_text, wav_text, why_text, packets_text, audit_text, unbuilt_text};
+ghost use Rattle.omxrun.specs.Texts.{fault_text, made_text, which_text, wav_text, why_text, packets_text, audit_text};
 
 use crate::text::Text;
-use omx_types::{AuditWhy, Fault, PacketsWhy, ScriptWhy, Unbuilt, WavFault, Which};
+use omx_types::{AuditWhy, Fault, PacketsWhy, ScriptWhy, WavFault, Which};
 
 /// The line of a fault.
 pub fn text_of_fault(fault: Fault) -> Text
@@ -47,7 +47,6 @@ fn put_fault(text: &mut Text, fault: Fault)
         Fault::OutOfMemory => text.push(b"out of memory"),
         Fault::Short { which, at, size } => put_short(text, which, at, size),
         Fault::Units { have, need } => put_units(text, have, need),
-        Fault::NotBuilt { what } => put_unbuilt(text, what),
         Fault::Packets { why } => put_packets(text, why),
         Fault::NotRun { line, why } => put_not_run(text, line, why),
     }
@@ -167,17 +166,6 @@ fn put_units(text: &mut Text, have: u32, need: u32)
     text.push_number(u64::from(have));
     text.push(b" need ");
     text.push_number(u64::from(need));
-}
-
-fn put_unbuilt(text: &mut Text, what: Unbuilt)
-    requires { length text.old ≡ 0 }
-    ensures text { text.new ≡ text.old ++ (codes "not built: " ++ unbuilt_text what) }
-    ensures len { length text.new ≤ 120 }
-{
-    text.push(b"not built: ");
-    match what {
-        Unbuilt::Words => text.push(b"words"),
-    }
 }
 
 fn put_packets(text: &mut Text, why: PacketsWhy)

@@ -76,7 +76,6 @@ module _ (old mid : Outside) (S : IsStill old mid) where
   source_fault_sooner line name new Faults.Usage is = absurd is
   source_fault_sooner line name new Faults.WriteFault is = absurd is
   source_fault_sooner line name new (Faults.Units have need) is = absurd is
-  source_fault_sooner line name new (Faults.NotBuilt what) is = absurd is
   source_fault_sooner line name new (Faults.Packets why) is = absurd is
   source_fault_sooner line name new (Faults.NotRun at why) is = absurd is
 
@@ -91,7 +90,6 @@ module _ (old mid : Outside) (S : IsStill old mid) where
   sink_fault_sooner line name new (Faults.Script at why) is = absurd is
   sink_fault_sooner line name new Faults.Usage is = absurd is
   sink_fault_sooner line name new (Faults.Units have need) is = absurd is
-  sink_fault_sooner line name new (Faults.NotBuilt what) is = absurd is
   sink_fault_sooner line name new (Faults.Packets why) is = absurd is
   sink_fault_sooner line name new (Faults.NotRun at why) is = absurd is
 

@@ -252,7 +252,6 @@ source_fault_later line name old mid new (Faults.Script at why) S is = absurd is
 source_fault_later line name old mid new Faults.Usage S is = absurd is
 source_fault_later line name old mid new Faults.WriteFault S is = absurd is
 source_fault_later line name old mid new (Faults.Units have need) S is = absurd is
-source_fault_later line name old mid new (Faults.NotBuilt what) S is = absurd is
 source_fault_later line name old mid new (Faults.Packets why) S is = absurd is
 source_fault_later line name old mid new (Faults.NotRun at why) S is = absurd is
 
@@ -276,6 +275,5 @@ sink_fault_later line name old mid new (Faults.Short which at size) S is = absur
 sink_fault_later line name old mid new (Faults.Script at why) S is = absurd is
 sink_fault_later line name old mid new Faults.Usage S is = absurd is
 sink_fault_later line name old mid new (Faults.Units have need) S is = absurd is
-sink_fault_later line name old mid new (Faults.NotBuilt what) S is = absurd is
 sink_fault_later line name old mid new (Faults.Packets why) S is = absurd is
 sink_fault_later line name old mid new (Faults.NotRun at why) S is = absurd is
