@@ -14,9 +14,7 @@ mod state;
 
 pub use command::{Command, Completion, Event, Note, PortSel};
 pub use error::{CallError, OmxError};
-pub use fault::{
-    AuditWhy, Fault, PacketsWhy, PartFault, ScriptWhy, Status, WavFault, Which,
-};
+pub use fault::{AuditWhy, Fault, PacketsWhy, PartFault, ScriptWhy, Status, WavFault, Which};
 pub use format::Format;
 pub use handle::{Handle, PortId};
 pub use kind::Kind;
