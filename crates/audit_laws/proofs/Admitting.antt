@@ -35,9 +35,9 @@ use Rattle.read_world_laws.specs.Inside.{inside}
 use Rattle.read_world_laws.specs.Mended.{mend}
 use Rattle.play_history_laws.specs.Following.{IsTurn}
 use Rattle.play_history_laws.specs.Order.{Begins, BothHaveTold, Changes, ChangesOn as ConductsOn, Cursor, EachHasHeard, GoesOn, IsAsked, IsChangeAct, IsDone, IsDoneBy, IsSending, IsStateTold, one_more}
-use Rattle.plan_history_laws.specs.Askings.{IsPlanHistory, read_of}
-use Rattle.plan_history_laws.proofs.Answered.{ends_told, ports_told, settings_told, states_told}
-use Rattle.plan_history_laws.proofs.Askings.{come, link_is, placed}
+use Rattle.play_history_laws.specs.Askings.{IsPlanHistory, read_of}
+use Rattle.play_history_laws.proofs.Answered.{ends_told, ports_told, settings_told, states_told}
+use Rattle.play_history_laws.proofs.Askings.{come, link_is, placed}
 use Rattle.audit_order.specs.declared.ends.LinkEnds.{LinkEnds}
 use Rattle.audit_order.specs.declared.order.Change.{Change}
 use Rattle.audit_order.specs.Asked.{change_act, state_sent}

@@ -31,8 +31,8 @@ use Rattle.play_log.specs.Scenes.{HaveOwnNames, Scene}
 use Rattle.play_log.proofs.Players.{some_same}
 use Rattle.play_result_laws.specs.Asked.{AreAllAt, AreBothDone, BackToIdle, HasCause, tuned}
 use Rattle.play_history_laws.specs.Order.{Cursor, EachHasHeard, IsAsked, IsDone, IsDoneBy, IsSending, IsStateTold, one_more}
-use Rattle.plan_history_laws.specs.Askings.{IsPlanHistory, read_of}
-use Rattle.plan_history_laws.proofs.Askings.{come, ends_heard, link_is, named, placed, ports_heard, settings_heard, states_heard}
+use Rattle.play_history_laws.specs.Askings.{IsPlanHistory, read_of}
+use Rattle.play_history_laws.proofs.Askings.{come, ends_heard, link_is, named, placed, ports_heard, settings_heard, states_heard}
 use Rattle.audit_order.specs.declared.ends.LinkEnds.{LinkEnds}
 use Rattle.audit_order.specs.declared.order.Change.{Change}
 use Rattle.audit_order.specs.Asked.{change_act, state_sent}

@@ -22,9 +22,9 @@ use Rattle.play_log.specs.Naming.{NameAll, Names}
 use Rattle.play_log.specs.Saying.{SaysAct, SaysReply}
 use Rattle.play_log.specs.Scenes.{HaveOwnNames, scene_of}
 use Rattle.play_history_laws.specs.Order.{Cursor}
-use Rattle.plan_history_laws.specs.Askings.{IsPlanHistory}
-use Rattle.plan_history_laws.proofs.Askings.{come, many, named_now}
-use Rattle.plan_history_laws.proofs.Unrefused.{not_refused}
+use Rattle.play_history_laws.specs.Askings.{IsPlanHistory}
+use Rattle.play_history_laws.proofs.Askings.{come, many, named_now}
+use Rattle.play_history_laws.proofs.PlanUnrefused.{not_refused}
 use Rattle.audit_order.specs.Steps.{OrderValue, nothing_asked as nothing_sent}
 use Rattle.audit_forms.specs.Audited.{ComesNext}
 use Rattle.audit_forms.specs.Told.{HaveNumbers, nothing_told, told_after}

@@ -46,9 +46,9 @@ use Rattle.play_result_laws.specs.Files.{AreSamples, IsWriter, written_by}
 use Rattle.play_result_laws.specs.Passes.{IsPassOf}
 use Rattle.play_result_laws.specs.Results.{HoldSinks, IsLogOf, IsPlanIn}
 use Rattle.play_result_laws.proofs.OwnNames.{own_names}
-use Rattle.plan_history_laws.proofs.Askings.{named_now}
-use Rattle.plan_history_laws.proofs.Files.{requested_fronts}
-use Rattle.plan_history_laws.proofs.Ordered.{history_ordered}
+use Rattle.play_history_laws.proofs.Askings.{named_now}
+use Rattle.play_history_laws.proofs.Files.{requested_fronts}
+use Rattle.play_history_laws.proofs.Ordered.{history_ordered}
 use Rattle.audit_lines.specs.Lines.{IsOfPlay, text_of_line, texts_from}
 use Rattle.audit_lines.proofs.Cut.{log_cut}
 use Rattle.audit_lines.proofs.Short.{line_taken}

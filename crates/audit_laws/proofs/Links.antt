@@ -26,7 +26,7 @@ use Rattle.play_model.specs.Play.{component_at}
 use Rattle.play_world_laws.specs.Cast.{components_of, script_place}
 use Rattle.play_world_laws.specs.PlayWorlds.{PlayCast, port_number}
 use Rattle.play_world_laws.specs.Worlds.{Names}
-use Rattle.play_change_laws.specs.Conducting.{definition_key, port_command}
+use Rattle.play_world_laws.specs.Conducting.{definition_key, port_command}
 use Rattle.play_plan_laws.specs.Assemblies.{IsReady, PlayFiles, assembly_of, is_late_link, kind_in, play_cast_of}
 use Rattle.play_plan_laws.specs.Casting.{IsLinkCast, flow_of, joint_of, no_joint}
 use Rattle.play_plan_laws.proofs.Lawful.{IsLinkAt, link_is as link_there, plan_lawful}

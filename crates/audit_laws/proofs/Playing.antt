@@ -27,7 +27,7 @@ use Rattle.play_world_laws.proofs.Lists.{get_there}
 use Rattle.play_log.specs.Naming.{IsUnbroken}
 use Rattle.play_log.specs.Saying.{Of, SaysAct, SaysReply, key, port_at}
 use Rattle.play_log.specs.Scenes.{IsPlayer, Scene}
-use Rattle.plan_history_laws.specs.Refused.{IsPartHandle, is_refused}
+use Rattle.play_history_laws.specs.Refused.{IsPartHandle, is_refused}
 use Rattle.audit_order.specs.declared.ends.LinkEnds.{LinkEnds}
 use Rattle.audit_order.specs.Asked.{change_act, is_asked}
 use Rattle.audit_order.specs.Steps.{OrderValue}

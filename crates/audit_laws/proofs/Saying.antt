@@ -28,14 +28,14 @@ use Rattle.play_result_laws.specs.Files.{AreFiles, AreSamples, IsWriter}
 use Rattle.play_result_laws.specs.Results.{IsPlanIn}
 use Rattle.play_result_laws.proofs.OwnNames.{own_names}
 use Rattle.play_history_laws.specs.Order.{Cursor}
-use Rattle.plan_history_laws.specs.Askings.{IsPlanHistory}
-use Rattle.plan_history_laws.specs.Requests.{AreRequested, requests}
-use Rattle.plan_history_laws.proofs.Askings.{link_is, many}
-use Rattle.plan_history_laws.proofs.Ends.{all_rest, played_out}
-use Rattle.plan_history_laws.proofs.Files.{requested_whole}
-use Rattle.plan_history_laws.proofs.Fronts.{times}
-use Rattle.plan_history_laws.proofs.Ordered.{history_ordered}
-use Rattle.plan_history_laws.proofs.Places as places
+use Rattle.play_history_laws.specs.Askings.{IsPlanHistory}
+use Rattle.play_history_laws.specs.Requests.{AreRequested, requests}
+use Rattle.play_history_laws.proofs.Askings.{link_is, many}
+use Rattle.play_history_laws.proofs.RequestedEnds.{all_rest, played_out}
+use Rattle.play_history_laws.proofs.Files.{requested_whole}
+use Rattle.play_history_laws.proofs.ListFronts.{times}
+use Rattle.play_history_laws.proofs.Ordered.{history_ordered}
+use Rattle.play_history_laws.proofs.Places as places
 use Rattle.audit_lines.specs.Lines.{IsOfPlay, pieces_of, texts_from}
 use Rattle.audit_lines.proofs.Cut.{log_whole}
 use Rattle.audit_order.specs.Steps.{OrderValue, nothing_asked}

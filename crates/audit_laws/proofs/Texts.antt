@@ -18,7 +18,7 @@ use Rattle.play_forms.specs.Parts.{kind_of}
 use Rattle.play_log.specs.Saying.{Of, SaysAct, key, port_at}
 use Rattle.play_log.specs.Scenes.{IsPlayer, Scene}
 use Rattle.play_log.proofs.Players.{some_same}
-use Rattle.plan_history_laws.specs.Requests.{is_request_act}
+use Rattle.play_history_laws.specs.Requests.{is_request_act}
 use Rattle.audit_order.specs.Asked.{is_asked}
 use Rattle.audit_order.specs.Ends.{port_named}
 use Rattle.audit_forms.specs.Told.{HaveNumbers}

@@ -28,7 +28,7 @@ use Rattle.play_log.specs.Scenes.{HaveOwnNames, scene_of}
 use Rattle.play_log.proofs.Players.{some_same}
 use Rattle.play_log.proofs.Same.{names_same, said_brings}
 use Rattle.play_log.proofs.Telling.{tells_on}
-use Rattle.plan_history_laws.proofs.Askings.{many, named_now}
+use Rattle.play_history_laws.proofs.Askings.{many, named_now}
 use Rattle.audit_lines.specs.Lines.{pieces_of}
 use Rattle.audit_lines.proofs.Spelled.{one_line}
 use Rattle.audit_order.specs.Asked.{is_asked}

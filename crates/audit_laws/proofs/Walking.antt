@@ -24,15 +24,15 @@ use Rattle.play_log.specs.Saying.{SaysAct}
 use Rattle.play_log.specs.Scenes.{HaveOwnNames, Scene, scene_of}
 use Rattle.play_result_laws.specs.Asked.{Asking, IsConducted, acts_of, askings, tuned}
 use Rattle.play_history_laws.specs.Order.{Cursor, nothing_asked}
-use Rattle.fault_history_laws.specs.Faults.{IsAnyAllowed, IsFaultHistory}
-use Rattle.plan_history_laws.specs.Askings.{IsPlanHistory, asking_of, read_of}
-use Rattle.plan_history_laws.specs.Requests.{AreRequested, is_request, requests}
-use Rattle.plan_history_laws.proofs.Askings.{many}
-use Rattle.plan_history_laws.proofs.Conducted.{conducted_requested}
-use Rattle.plan_history_laws.proofs.Fronts.{kept_at, kept_not}
-use Rattle.plan_history_laws.proofs.Places as places
-use Rattle.plan_history_laws.proofs.Requested.{history_on, unrequested}
-use Rattle.plan_history_laws.proofs.Walking.{asked_next}
+use Rattle.play_history_laws.specs.Faults.{IsAnyAllowed, IsFaultHistory}
+use Rattle.play_history_laws.specs.Askings.{IsPlanHistory, asking_of, read_of}
+use Rattle.play_history_laws.specs.Requests.{AreRequested, is_request, requests}
+use Rattle.play_history_laws.proofs.Askings.{many}
+use Rattle.play_history_laws.proofs.Conducted.{conducted_requested}
+use Rattle.play_history_laws.proofs.ListFronts.{kept_at, kept_not}
+use Rattle.play_history_laws.proofs.Places as places
+use Rattle.play_history_laws.proofs.Requested.{history_on, unrequested}
+use Rattle.play_history_laws.proofs.RequestWalk.{asked_next}
 use Rattle.audit_order.specs.Steps.{IsComplete, OrderValue, nothing_asked as nothing_sent}
 use Rattle.audit_forms.specs.Audited.{ComesNext}
 use Rattle.audit_forms.specs.Told.{HaveNumbers, nothing_told, told_after, told_more}

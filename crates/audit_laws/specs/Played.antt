@@ -10,7 +10,7 @@ use Rattle.play_log.specs.Scenes.{scene_of}
 use Rattle.play_result_laws.specs.Asked.{tuned}
 use Rattle.play_result_laws.specs.Results.{HoldSinks}
 use Rattle.play_result_laws.specs.Worlds.{IsEnding, IsOpening}
-use Rattle.plan_history_laws.specs.Requests.{AreRequested}
+use Rattle.play_history_laws.specs.Requests.{AreRequested}
 
 -- From a world where the plan's play begins the text names so many acts, which lead to the end of a play that was done whole. What is
 -- requested by them is all that a play asks for, in order and in time; and each sink's told file is that of the plain function.

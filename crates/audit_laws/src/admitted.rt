@@ -12,7 +12,7 @@ ghost use Rattle.play_log.specs.Scenes.{HaveOwnNames, scene_of};
 ghost use Rattle.play_plan_laws.specs.Assemblies.{IsReady, PlayFiles, assembly_of};
 ghost use Rattle.play_result_laws.specs.Asked.{IsConducted, tuned};
 ghost use Rattle.play_history_laws.specs.Order.{Cursor};
-ghost use Rattle.plan_history_laws.specs.Askings.{IsPlanHistory};
+ghost use Rattle.play_history_laws.specs.Askings.{IsPlanHistory};
 ghost use Rattle.audit_order.specs.Steps.{IsComplete, OrderValue};
 ghost use Rattle.audit_forms.specs.Audited.{ComesNext};
 ghost use Rattle.audit_forms.specs.Told.{nothing_told, told_after};

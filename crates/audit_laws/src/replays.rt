@@ -17,7 +17,7 @@ ghost use Rattle.play_log.specs.Scenes.{HaveOwnNames, scene_of};
 ghost use Rattle.play_plan_laws.specs.Assemblies.{IsReady, PlayFiles};
 ghost use Rattle.play_result_laws.specs.Worlds.{IsOpening};
 ghost use Rattle.play_history_laws.specs.Order.{Cursor};
-ghost use Rattle.plan_history_laws.specs.Askings.{IsPlanHistory};
+ghost use Rattle.play_history_laws.specs.Askings.{IsPlanHistory};
 ghost use Rattle.audit_order.specs.Steps.{OrderValue};
 ghost use Rattle.audit_forms.specs.Audited.{Verdict};
 ghost use Rattle.audit_forms.specs.Whole.{IsAudited, IsVerdictFrom};

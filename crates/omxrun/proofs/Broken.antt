@@ -30,7 +30,7 @@ use Rattle.play_graph.specs.Making.{AreOffered}
 use Rattle.play_run.proofs.ThreadFiles.{are_offered}
 use Rattle.play_workers.specs.declared.ran.Ran.{Ran}
 use Rattle.play_workers.specs.Wholes.{HasCounted}
-use Rattle.worker_history_laws.specs.Lines.{GatesCount, merged_text}
+use Rattle.worker_play_laws.specs.Lines.{GatesCount, merged_text}
 use Rattle.omxrun.specs.Answers.{IsBrokenOff, IsDone}
 use Rattle.omxrun.specs.Reasons.{reason_of}
 use Rattle.omxrun.specs.Runs.{HasRun}

@@ -19,7 +19,7 @@ use Rattle.play_log.specs.Places.{AreKeptAt, PassLogValue}
 use Rattle.play_worker.specs.Counts.{Counts, claims, is_claim}
 use Rattle.play_workers.specs.Wholes.{HasCounted, IsPageOf}
 use Rattle.work_signs.specs.declared.seat.Seat.{Seat}
-use Rattle.worker_history_laws.specs.Lines.{CountsAreOf, GatesCount, gives_work}
+use Rattle.worker_play_laws.specs.Lines.{CountsAreOf, GatesCount, gives_work}
 
 module _ {S K C : Type 0} (seats : List Seat) (log : List (Entry (Asked S K C) (Told S K C))) where
   -- those from a pass on

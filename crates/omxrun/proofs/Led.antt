@@ -26,7 +26,7 @@ use Rattle.graph_acts.specs.declared.act.Reply.{Reply}
 use Rattle.graph_acts.specs.Plain.{Sight}
 use Rattle.board.specs.Asking.{ArePlain, bare_log}
 use Rattle.board.specs.Histories.{graph_of}
-use Rattle.board_entry_laws.specs.Entries.{entries_of}
+use Rattle.worker_play_laws.specs.Entries.{entries_of}
 use Rattle.work_signs.specs.declared.seat.Seat.{Seat}
 use Rattle.work_signs.specs.Seats.{AreSeatsOf, handles_of}
 use Rattle.conductor.specs.declared.phase.Phase.TheVariants.{Over}
@@ -45,7 +45,7 @@ use Rattle.play_plan_laws.specs.Assemblies.{IsReady, PlayFiles, play_cast_of}
 use Rattle.play_plan_laws.specs.Endings.{HasEnded, IsPlayedOut, ends_of}
 use Rattle.play_result_laws.specs.Passes.{own_steps}
 use Rattle.play_result_laws.specs.Rounds.{IsConducting, IsHalted}
-use Rattle.worked_play_laws.specs.Worked.{conducts}
+use Rattle.play_history_laws.specs.Worked.{conducts}
 use Rattle.play_course.specs.declared.player.RunFault.{RunFault}
 use Rattle.play_course.specs.declared.player.RunFault.TheVariants.{OutOfMemory}
 use Rattle.play_course.specs.Failing.{HasFailure, TellsFirst}
@@ -60,9 +60,9 @@ use Rattle.pass_book.specs.Books.{IsPlayCall}
 use Rattle.pass_book.specs.Saying.{line_of}
 use Rattle.pass_book.specs.Seats.{IsOfPlay, names_of}
 use Rattle.play_log.specs.Lines.{IsLogLine}
-use Rattle.worker_history_laws.specs.Lines.{HaveLogLines}
+use Rattle.worker_play_laws.specs.Lines.{HaveLogLines}
 use Rattle.play_workers.specs.declared.ran.Ran.{Ran}
-use Rattle.worker_history_laws.specs.Histories.{IsBoardPlay, IsPlayedBy, RequestsNothing}
+use Rattle.worker_play_laws.specs.Histories.{IsBoardPlay, IsPlayedBy, RequestsNothing}
 use Rattle.worker_play_laws.specs.Files.{ShowsSince}
 use Rattle.worker_play_laws.specs.Leaving.{IsLeftWith}
 use Rattle.play_files.specs.Seen.{file_seen}

@@ -20,8 +20,8 @@ use Rattle.play_log.specs.Entries.{Entry}
 use Rattle.play_plan_laws.specs.Assemblies.{IsReady, PlayFiles}
 use Rattle.play_plan_laws.specs.Endings.{ends_of}
 use Rattle.play_result_laws.specs.Rounds.{IsConducting, begins}
-use Rattle.plan_history_laws.specs.Refused.{IsAtPart}
-use Rattle.worked_play_laws.specs.Worked.{IsWorked}
+use Rattle.play_history_laws.specs.Refused.{IsAtPart}
+use Rattle.play_history_laws.specs.Worked.{IsWorked}
 use Rattle.play_files.specs.Seen.{FileSeen}
 use Rattle.play_course.specs.declared.player.RunFault.TheVariants.{OutOfMemory}
 use Rattle.play_course.specs.Players.{AreFilesOf as AreSeenFiles, CanPlay, IsFailed}

@@ -24,7 +24,7 @@ use Rattle.board.specs.declared.watched.Watched.{Watched}
 use Rattle.board.specs.Asking.{ArePlain, bare_log}
 use Rattle.board.specs.Boards.{Closed, HasAllBack}
 use Rattle.board.specs.Histories.{Legal, MayAsk, graph_of}
-use Rattle.board_entry_laws.specs.Entries.{entries_of}
+use Rattle.worker_play_laws.specs.Entries.{entries_of}
 use Rattle.work_signs.specs.declared.seat.Seat.{Seat}
 use Rattle.work_signs.specs.Seats.{AreSeatsOf}
 use Rattle.pass_book.specs.Seats.{IsOfPlay, names_of}
@@ -52,7 +52,7 @@ use Rattle.play_result_laws.specs.Texts.{HasWrittenFront}
 use Rattle.play_result_laws.specs.Worlds.{HasWritten}
 use Rattle.read_world_laws.specs.Inside.{inside}
 use Rattle.read_world_laws.specs.Mended.{mend}
-use Rattle.worked_play_laws.specs.Worked.{IsWorked, conducts}
+use Rattle.play_history_laws.specs.Worked.{IsWorked, conducts}
 use Rattle.play_course.specs.declared.player.RunFault.{RunFault}
 use Rattle.play_course.specs.Failing.{HasFailure, LeavesWorld, TellsFirst}
 use Rattle.play_course.specs.Players.{IsFailed, IsPlayedWhole}
@@ -65,8 +65,8 @@ use Rattle.play_worker.specs.declared.failure.Failure.{Failure}
 use Rattle.play_worker.specs.Failing.{HasFailed, TellsWorst}
 use Rattle.worker_play_laws.specs.Files.{HaveStayed, ShowsSince, is_steady}
 use Rattle.worker_play_laws.specs.Leaving.{IsLeftWith}
-use Rattle.worker_history_laws.specs.Histories.{IsBoardPlay, IsPlayedBy}
-use Rattle.worker_history_laws.specs.Lines.{GatesCount, HaveLogLines, merged_text}
+use Rattle.worker_play_laws.specs.Histories.{IsBoardPlay, IsPlayedBy}
+use Rattle.worker_play_laws.specs.Lines.{GatesCount, HaveLogLines, merged_text}
 use Rattle.omxrun.specs.Sights.{all_seen, play_sight}
 
 -- of worlds alone

@@ -31,8 +31,8 @@ use Rattle.play_plan_laws.specs.Casting.{IsLinkCast, flow_of, joint_of, no_joint
 use Rattle.play_plan_laws.proofs.Casts.{plan_has_cast}
 use Rattle.play_world_laws.specs.Changing.{is_joined_at}
 use Rattle.play_world_laws.specs.PlayWorlds.{IsPlayWorld, PlayCast, end_of_link, port_number}
-use Rattle.play_change_laws.proofs.Ends as ends
-use Rattle.play_change_laws.proofs.Standing.{pending_is, state_is}
+use Rattle.play_world_laws.proofs.ChangeEnds as ends
+use Rattle.play_world_laws.proofs.Standing.{pending_is, state_is}
 use Rattle.play_plan_laws.specs.Assemblies.{play_cast_of}
 use Rattle.play_plan_laws.specs.Endings.{ends_of}
 use Rattle.play_graph.specs.Stops.{HaveTunnels, HasNoneOut, HasStopped}

@@ -22,15 +22,15 @@ use Rattle.play_world_laws.specs.Standing.{target}
 use Rattle.play_stream_laws.specs.Contents.{PlayContents}
 use Rattle.play_world_laws.specs.PlayWorlds.{IsPlayWorld, PlayCast, port_number}
 use Rattle.play_world_laws.proofs.Begins.{begins}
-use Rattle.play_change_laws.specs.Conducting.{definition_key, planned, port_command}
-use Rattle.play_change_laws.specs.Leading.{PlayLeadsTo}
-use Rattle.play_change_laws.proofs.Dropping.{drop_leads}
-use Rattle.play_change_laws.proofs.Joining.{join_leads}
-use Rattle.play_change_laws.proofs.Sending.{send_leads as send_port_leads}
-use Rattle.play_change_laws.proofs.Setting.{set_leads}
-use Rattle.play_stage_laws.specs.Waiting.{IsWaiting}
-use Rattle.play_stage_laws.proofs.Waiting.{waits_on}
-use Rattle.play_stage_laws.proofs.Sends.{send_leads}
+use Rattle.play_world_laws.specs.Conducting.{definition_key, planned, port_command}
+use Rattle.play_world_laws.specs.Leading.{PlayLeadsTo}
+use Rattle.play_world_laws.proofs.Dropping.{drop_leads}
+use Rattle.play_world_laws.proofs.Joining.{join_leads}
+use Rattle.play_world_laws.proofs.Sending.{send_leads as send_port_leads}
+use Rattle.play_world_laws.proofs.Setting.{set_leads}
+use Rattle.play_world_laws.specs.Waiting.{IsWaiting}
+use Rattle.play_world_laws.proofs.Waiting.{waits_on}
+use Rattle.play_world_laws.proofs.StageSends.{send_leads}
 use Rattle.play_stream_laws.specs.PlayStreams.{HasPlayStreams}
 use Rattle.play_stream_laws.proofs.Beginning.{begun_streams}
 use Rattle.play_stream_laws.proofs.Changing.{dropped_streams, joined_streams, sent_streams, set_streams}

@@ -13,8 +13,8 @@ use Rattle.play_world_laws.specs.Telling.{out_of, state_note}
 use Rattle.play_stream_laws.specs.Contents.{PlayContents, network_of}
 use Rattle.play_stream_laws.specs.Fronts.{AreFronts, AreWritten}
 use Rattle.play_world_laws.specs.PlayWorlds.{PlayCast}
-use Rattle.play_change_laws.proofs.Ends.{actor_there}
-use Rattle.play_change_laws.proofs.Standing.{state_is}
+use Rattle.play_world_laws.proofs.ChangeEnds.{actor_there}
+use Rattle.play_world_laws.proofs.Standing.{state_is}
 use Rattle.play_stream_laws.specs.PlayStreams.{HasPlayStreams}
 use Rattle.play_stream_laws.proofs.PlayEnds.{written_fronts, written_whole}
 use Rattle.read_world_laws.specs.Inside.{inside, taken_in}

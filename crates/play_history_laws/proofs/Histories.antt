@@ -7,7 +7,7 @@ use Rattle.il_machine.specs.World.{World}
 use Rattle.play_model.specs.Play.{Play}
 use Rattle.play_world_laws.specs.Openings.{opening}
 use Rattle.play_world_laws.specs.PlayWorlds.{IsPlayWorld, PlayCast}
-use Rattle.play_stage_laws.specs.Waiting.{IsWaiting}
+use Rattle.play_world_laws.specs.Waiting.{IsWaiting}
 use Rattle.play_history_laws.specs.Following.{IsPlayed}
 use Rattle.play_history_laws.specs.Histories.{IsAllowed}
 use Rattle.play_history_laws.specs.Order.{Cursor, nothing_asked}

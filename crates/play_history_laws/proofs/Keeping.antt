@@ -6,8 +6,8 @@ use Rattle.play_model.specs.Acts.{Act, CanAct, CanActs, acted, all_acted, with_c
 use Rattle.play_model.specs.Acts.Act.{Begin, Send, Run, Happen, Tell, TellEnd, Supply, Release, HandOver, HandBack, HandUnused, Announce, TellSettings, Conduct, RunPort, HappenPort, TellPort, Step}
 use Rattle.play_model.specs.Changes.{Change, HasCommand, HasCompletion, IsChanged, IsPortDue, port_at, port_on, told_on}
 use Rattle.play_model.specs.Play.{Layout, Play}
-use Rattle.play_stage_laws.specs.Happenings.{AreHappenings, IsHappening}
-use Rattle.play_stage_laws.specs.Tellings.{IsTellingOf}
+use Rattle.play_world_laws.specs.Happenings.{AreHappenings, IsHappening}
+use Rattle.play_world_laws.specs.Tellings.{IsTellingOf}
 use Rattle.play_turn_laws.specs.Turns.{IsBackOf, IsRunOf, IsStepOf}
 
 pub record KeepsAsked (p q : Play) : Type 0 where

@@ -6,10 +6,10 @@ use Rattle.machine_laws.proofs.Closing.{closed_closes}
 use Rattle.play_model.specs.Acts.{Act, CanAct, acted, all_acted}
 use Rattle.play_model.specs.Play.{Layout, Play}
 use Rattle.play_world_laws.specs.PlayWorlds.{IsPlayWorld, PlayCast}
-use Rattle.play_change_laws.specs.Leading.{PlayLeadsTo}
-use Rattle.play_stage_laws.specs.Waiting.{IsWaiting}
-use Rattle.play_stage_laws.proofs.Closing.{closes_lead, idle_closes}
-use Rattle.play_stage_laws.proofs.Waiting.{waits_on}
+use Rattle.play_world_laws.specs.Leading.{PlayLeadsTo}
+use Rattle.play_world_laws.specs.Waiting.{IsWaiting}
+use Rattle.play_world_laws.proofs.Closing.{closes_lead, idle_closes}
+use Rattle.play_world_laws.proofs.Waiting.{waits_on}
 use Rattle.play_history_laws.specs.Following.{IsLater}
 use Rattle.play_history_laws.proofs.Keeping.{IsWorkers, KeepsAsked, keeps_happening, keeps_itself, keeps_own, keeps_through}
 use Rattle.play_history_laws.proofs.Onward.{later_happening, later_itself, later_own, later_through}

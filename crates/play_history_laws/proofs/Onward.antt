@@ -5,7 +5,7 @@ use Rattle.play_model.specs.Acts.{Act, CanAct, CanActs, acted, all_acted, with_c
 use Rattle.play_model.specs.Acts.Act.{Begin, Send, Run, Happen, Tell, TellEnd, Supply, Release, HandOver, HandBack, HandUnused, Announce, TellSettings, Conduct, RunPort, HappenPort, TellPort, Step}
 use Rattle.play_model.specs.Changes.{Change, conducted, port_at, port_on, told_on}
 use Rattle.play_model.specs.Play.{Layout, Play}
-use Rattle.play_stage_laws.specs.Happenings.{AreHappenings}
+use Rattle.play_world_laws.specs.Happenings.{AreHappenings}
 use Rattle.play_history_laws.specs.Following.{GoesTo, IsLater, IsLeft}
 use Rattle.play_history_laws.specs.Order.{Cursor, one_more}
 use Rattle.play_history_laws.proofs.Following.{change_else, made_here}

@@ -22,8 +22,8 @@ use Rattle.play_world_laws.specs.Wiring.{ends_of, link_to, work_in}
 use Rattle.play_world_laws.proofs.Handing.{not_empty}
 use Rattle.play_world_laws.specs.Changing.{is_joined_at}
 use Rattle.play_world_laws.specs.PlayWorlds.{IsActorAt, IsPlayWorld, PlayCast, end_of_link}
-use Rattle.play_change_laws.proofs.Ends.{IsPortAt, port_end}
-use Rattle.play_link_laws.proofs.Sides.{away_is, home_is, home_supplies, joined_made, other_is, supplier_is, supplies}
+use Rattle.play_world_laws.proofs.ChangeEnds.{IsPortAt, port_end}
+use Rattle.play_world_laws.proofs.Sides.{away_is, home_is, home_supplies, joined_made, other_is, supplier_is, supplies}
 
 -- ---- two sides
 

@@ -26,8 +26,8 @@ use Rattle.play_world_laws.specs.Openings.{opening}
 use Rattle.play_world_laws.specs.Standing.{target}
 use Rattle.play_world_laws.proofs.Lists.{resolved}
 use Rattle.play_world_laws.specs.PlayWorlds.{IsPlayWorld, PlayCast}
-use Rattle.play_stage_laws.specs.Waiting.{IsWaiting}
-use Rattle.play_stage_laws.proofs.Notes.{an_event}
+use Rattle.play_world_laws.specs.Waiting.{IsWaiting}
+use Rattle.play_world_laws.proofs.StageNotes.{an_event}
 use Rattle.read_world_laws.specs.Beside.{IsBeside}
 use Rattle.read_world_laws.specs.Inside.{inside, taken_in}
 use Rattle.read_world_laws.proofs.Inside.{after_closed, back_in_same, between, ends_so, finishes_in, get_in, meets_in, named_between, place_in, step_in, takes_so, there_between}

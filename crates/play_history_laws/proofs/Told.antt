@@ -11,7 +11,7 @@ use Rattle.play_world_laws.specs.Cast.{components_of, giver_of, links_of}
 use Rattle.play_world_laws.specs.Standing.{target}
 use Rattle.play_world_laws.specs.Telling.{heard, last_told}
 use Rattle.play_world_laws.specs.PlayWorlds.{HasHeard, IsPlayWorld, PlayCast, port_number}
-use Rattle.play_change_laws.proofs.Ends.{actor_there, end_inside}
+use Rattle.play_world_laws.proofs.ChangeEnds.{actor_there, end_inside}
 use Rattle.play_history_laws.specs.Following.{Follows, IsTurn}
 use Rattle.play_history_laws.specs.Order.{BothHaveTold, Cursor, EachHasHeard, HasHeardOf, IsDone, IsDoneBy, IsStateTold}
 

@@ -37,16 +37,16 @@ use Rattle.play_world_laws.specs.Worlds.{Names}
 use Rattle.play_world_laws.proofs.Lists.{resolved}
 use Rattle.play_stream_laws.specs.Contents.{PlayContents}
 use Rattle.play_world_laws.specs.PlayWorlds.{IsActorAt, IsPlayWorld, PlayCast}
-use Rattle.play_change_laws.proofs.Ends.{actor_there}
-use Rattle.play_stage_laws.specs.Waiting.{IsWaiting}
-use Rattle.play_stage_laws.proofs.Notes.{take_leads}
+use Rattle.play_world_laws.proofs.ChangeEnds.{actor_there}
+use Rattle.play_world_laws.specs.Waiting.{IsWaiting}
+use Rattle.play_world_laws.proofs.StageNotes.{take_leads}
 use Rattle.play_step_laws.proofs.Claiming.{claim_taken}
 use Rattle.play_stream_laws.specs.PlayStreams.{HasPlayStreams}
 use Rattle.play_stream_laws.proofs.Acts.{done_or_not, world_stays}
 use Rattle.play_stream_laws.proofs.Components.{claim_streams, end_streams, run_streams, take_streams}
 use Rattle.play_stream_laws.proofs.Headers.{back_streams, over_streams, release_streams, supply_streams}
 use Rattle.play_stream_laws.proofs.PlayStepping.{finish_streams}
-use Rattle.play_stage_laws.specs.Tellings.{IsTellingOf}
+use Rattle.play_world_laws.specs.Tellings.{IsTellingOf}
 use Rattle.play_turn_laws.specs.Turns.{IsAct, IsBackOf, IsRunOf, IsStepOf, PlayCame}
 use Rattle.play_turn_laws.proofs.Coming.{backs_come, finishes_come, overs_come, releases_come, runs_come, supplies_come, tells_come}
 use Rattle.play_history_laws.specs.Following.{StreamsLead}

@@ -9,7 +9,7 @@ use Rattle.play_model.specs.Play.{Layout, Play}
 use Rattle.play_world_laws.specs.Cast.{Cast, components_of, links_of, script_place}
 use Rattle.play_stream_laws.specs.Contents.{PlayContents}
 use Rattle.play_world_laws.specs.PlayWorlds.{IsPlayWorld, PlayCast}
-use Rattle.play_stage_laws.specs.Waiting.{IsWaiting}
+use Rattle.play_world_laws.specs.Waiting.{IsWaiting}
 use Rattle.play_stream_laws.specs.PlayStreams.{HasPlayStreams}
 use Rattle.read_world_laws.specs.Inside.{inside}
 use Rattle.play_history_laws.specs.Order.{Cursor}

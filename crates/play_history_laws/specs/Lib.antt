@@ -1,3 +1,12 @@
 pub mod Order
 pub mod Histories
 pub mod Following
+pub mod Undone
+pub mod Faults
+pub mod Telling
+pub mod Behind
+pub mod Askings
+pub mod Requests
+pub mod Refused
+pub mod Passes
+pub mod Worked

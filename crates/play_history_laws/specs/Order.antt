@@ -16,7 +16,7 @@ use Rattle.play_world_laws.specs.Standing.{target}
 use Rattle.play_world_laws.specs.Telling.{heard}
 use Rattle.play_world_laws.specs.Worlds.{Names}
 use Rattle.play_world_laws.specs.PlayWorlds.{PlayCast, port_number}
-use Rattle.play_change_laws.specs.Conducting.{definition_key, planned, port_command}
+use Rattle.play_world_laws.specs.Conducting.{definition_key, planned, port_command}
 
 -- how much was asked
 pub record Cursor : Type 0 where

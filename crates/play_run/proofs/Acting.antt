@@ -39,11 +39,11 @@ use Rattle.play_forms.specs.Parts.{kind_of}
 use Rattle.play_plan_laws.specs.Casting.{flow_of, joint_of}
 use Rattle.play_stream_laws.specs.Contents.{PlayContents}
 use Rattle.play_world_laws.specs.PlayWorlds.{IsPlayWorld, PlayCast, port_number}
-use Rattle.play_change_laws.specs.Conducting.{IsSendAt, IsSetStep, definition_key, planned, port_command}
-use Rattle.play_change_laws.proofs.Dropping.{drop_leads}
-use Rattle.play_change_laws.proofs.Joining.{join_leads}
-use Rattle.play_change_laws.proofs.Sending.{send_leads}
-use Rattle.play_change_laws.proofs.Setting.{set_leads}
+use Rattle.play_world_laws.specs.Conducting.{IsSendAt, IsSetStep, definition_key, planned, port_command}
+use Rattle.play_world_laws.proofs.Dropping.{drop_leads}
+use Rattle.play_world_laws.proofs.Joining.{join_leads}
+use Rattle.play_world_laws.proofs.Sending.{send_leads}
+use Rattle.play_world_laws.proofs.Setting.{set_leads}
 use Rattle.play_turn_laws.specs.Conducting.{step_from}
 use Rattle.play_stream_laws.specs.PlayStreams.{HasPlayStreams}
 use Rattle.play_build_laws.specs.Assembly.{Assembly, definition_of}

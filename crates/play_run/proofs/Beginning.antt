@@ -21,7 +21,7 @@ use Rattle.play_world_laws.specs.Openings.{opening}
 use Rattle.play_forms.specs.Plans.{PlanValue}
 use Rattle.play_plan_laws.specs.Casting.{place_of as place_of_turn}
 use Rattle.play_turn_laws.proofs.Standing.{none_answered}
-use Rattle.play_stage_laws.proofs.Happening.{none_due}
+use Rattle.play_world_laws.proofs.StageHappening.{none_due}
 use Rattle.play_turn_laws.specs.Playing.{IsBetweenTurns}
 use Rattle.play_turn_laws.proofs.Beginning.{begins_playing as between_turns}
 use Rattle.play_plan_laws.specs.Assemblies.{IsReady, PlayFiles, play_cast_of}

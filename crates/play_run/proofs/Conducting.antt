@@ -26,7 +26,7 @@ use Rattle.stream_plan.proofs.Lists.{set_at, set_other, slice_get_front}
 use Rattle.play_plan_laws.specs.Conducting.{HasViews}
 use Rattle.play_stream_laws.specs.Contents.{PlayContents}
 use Rattle.play_world_laws.specs.PlayWorlds.{IsPlayWorld, PlayCast}
-use Rattle.play_stage_laws.proofs.Happening.{none_due}
+use Rattle.play_world_laws.proofs.StageHappening.{none_due}
 use Rattle.play_turn_laws.specs.Conducting.{IsChangeOf, IsPlayConductor}
 use Rattle.play_turn_laws.proofs.Changing.{conductor_changes, conductor_goes_on}
 use Rattle.play_turn_laws.proofs.Sending.{conductor_over, conductor_whole}

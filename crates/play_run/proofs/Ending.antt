@@ -7,7 +7,7 @@ use Rattle.play_model.specs.Play.{Play}
 use Rattle.play_model.specs.Reached.{IsOver}
 use Rattle.play_world_laws.specs.Cast.{components_of, script_place}
 use Rattle.play_world_laws.specs.Telling.{heard, last_told}
-use Rattle.play_change_laws.proofs.Ends.{actor_there}
+use Rattle.play_world_laws.proofs.ChangeEnds.{actor_there}
 use Rattle.play_plan_laws.proofs.Conducting.{told_stage}
 use Rattle.play_plan_laws.specs.Assemblies.{play_cast_of}
 use Rattle.play_run.specs.Playing.{IsPlaying, IsProgressAt, IsStanding, PlayingValue, cast, layout_of}

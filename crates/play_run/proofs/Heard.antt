@@ -19,7 +19,7 @@ use Rattle.play_world_laws.specs.Standing.{target}
 use Rattle.play_world_laws.specs.Telling.{heard, heard_of, last_told, progress_by}
 use Rattle.play_world_laws.specs.Changing.{told_of_port}
 use Rattle.play_world_laws.specs.PlayWorlds.{HasHeard, port_number}
-use Rattle.play_change_laws.proofs.Ends.{actor_there, end_inside}
+use Rattle.play_world_laws.proofs.ChangeEnds.{actor_there, end_inside}
 use Rattle.play_plan_laws.specs.Assemblies.{play_cast_of}
 use Rattle.play_log.specs.Entries.{Entry, step_of, steps_of}
 use Rattle.play_result_laws.specs.Asked.{told_by}

@@ -20,9 +20,9 @@ use Rattle.play_log.specs.Kept.{LogValue}
 use Rattle.play_world_laws.specs.Cast.{Cast, script_place, giver_of}
 use Rattle.play_plan_laws.specs.Casting.{joint_of}
 use Rattle.play_world_laws.specs.PlayWorlds.{IsActorAt, IsPlayWorld, PlayCast, port_number}
-use Rattle.play_change_laws.specs.Leading.{PlayLeadsTo}
-use Rattle.play_change_laws.proofs.Around.{none_told}
-use Rattle.play_change_laws.proofs.Sending.{turn_of}
+use Rattle.play_world_laws.specs.Leading.{PlayLeadsTo}
+use Rattle.play_world_laws.proofs.Around.{none_told}
+use Rattle.play_world_laws.proofs.Sending.{turn_of}
 use Rattle.play_turn_laws.specs.Conducting.{HasGoneOn, IsPlayConducting, step_from, step_to}
 use Rattle.play_turn_laws.proofs.Hearing.{one_link}
 use Rattle.play_turn_laws.proofs.Playing.{change_stands}

@@ -5,7 +5,7 @@ use Rattle.play_model.specs.Play.{Layout, Play}
 use Rattle.play_model.specs.Acts.{Act}
 use Rattle.play_loop.specs.Turns.{IsOfComponent, IsOfLink, SomePlay, Turned}
 use Rattle.play_loop.proofs.Running.{OfBoth, turn_more, turn_of}
-use Rattle.play_stage_laws.specs.Tellings.{IsTellingOf}
+use Rattle.play_world_laws.specs.Tellings.{IsTellingOf}
 use Rattle.play_turn_laws.specs.Turns.{IsAct, IsBackOf, IsRunOf, IsStepOf}
 use Rattle.play_run.specs.Playing.{IsPlaying, IsStanding, PlayingValue, TurnsTo, layout_of}
 use Rattle.play_run.proofs.Counting.{sum_least}

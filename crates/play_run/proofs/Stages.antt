@@ -27,10 +27,10 @@ use Rattle.play_world_laws.specs.Standing.{target}
 use Rattle.play_world_laws.specs.Worlds.{Names}
 use Rattle.play_stream_laws.specs.Contents.{PlayContents}
 use Rattle.play_world_laws.specs.PlayWorlds.{IsPlayWorld, PlayCast}
-use Rattle.play_stage_laws.proofs.Sends.{send_leads}
-use Rattle.play_stage_laws.specs.Happenings.{AreHappenings, IsHappening}
-use Rattle.play_stage_laws.proofs.Closing.{closes_lead}
-use Rattle.play_stage_laws.proofs.Waiting.{waits_on}
+use Rattle.play_world_laws.proofs.StageSends.{send_leads}
+use Rattle.play_world_laws.specs.Happenings.{AreHappenings, IsHappening}
+use Rattle.play_world_laws.proofs.Closing.{closes_lead}
+use Rattle.play_world_laws.proofs.Waiting.{waits_on}
 use Rattle.play_turn_laws.specs.Conducting.{AreCarriedOut, AreLates}
 use Rattle.play_turn_laws.proofs.Keeping.{carried_kept, lates_kept}
 use Rattle.play_stream_laws.specs.PlayStreams.{HasPlayStreams}

@@ -46,9 +46,9 @@ use Rattle.play_world_laws.specs.Cast.{components_of, script_place}
 use Rattle.play_world_laws.specs.Worlds.{Names}
 use Rattle.play_world_laws.specs.Changing.{is_joined_at}
 use Rattle.play_world_laws.specs.PlayWorlds.{IsPlayWorld, PlayCast}
-use Rattle.play_change_laws.proofs.Ends.{actor_there}
-use Rattle.play_stage_laws.specs.Waiting.{IsWaiting}
-use Rattle.play_stage_laws.proofs.Closing.{idle_closes}
+use Rattle.play_world_laws.proofs.ChangeEnds.{actor_there}
+use Rattle.play_world_laws.specs.Waiting.{IsWaiting}
+use Rattle.play_world_laws.proofs.Closing.{idle_closes}
 use Rattle.play_step_laws.proofs.Claiming.{claim_taken}
 use Rattle.play_turn_laws.specs.Conducting.{AreCarriedOut, AreLates, IsCarriedOut}
 use Rattle.play_turn_laws.specs.Turns.{IsStepOf, PlayCame}

@@ -42,12 +42,12 @@ use Rattle.play_world_laws.specs.Cast.{components_of, script_place}
 use Rattle.play_world_laws.specs.Worlds.{Names}
 use Rattle.play_world_laws.proofs.Lists.{resolved}
 use Rattle.play_world_laws.specs.PlayWorlds.{IsPlayWorld, PlayCast}
-use Rattle.play_change_laws.proofs.Ends.{actor_there}
-use Rattle.play_stage_laws.proofs.Notes.{an_event, takes}
-use Rattle.play_stage_laws.specs.Happenings.{IsHappening}
-use Rattle.play_stage_laws.specs.Waiting.{IsWaiting}
-use Rattle.play_stage_laws.proofs.Happening.{none_due, one_happens}
-use Rattle.play_stage_laws.specs.Tellings.{IsTellingOf}
+use Rattle.play_world_laws.proofs.ChangeEnds.{actor_there}
+use Rattle.play_world_laws.proofs.StageNotes.{an_event, takes}
+use Rattle.play_world_laws.specs.Happenings.{IsHappening}
+use Rattle.play_world_laws.specs.Waiting.{IsWaiting}
+use Rattle.play_world_laws.proofs.StageHappening.{none_due, one_happens}
+use Rattle.play_world_laws.specs.Tellings.{IsTellingOf}
 use Rattle.play_turn_laws.specs.Turns.{PlayCame}
 use Rattle.play_turn_laws.proofs.Coming.{none_told, tells_come}
 use Rattle.play_plan_laws.specs.Assemblies.{play_cast_of}

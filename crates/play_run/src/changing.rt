@@ -5,7 +5,7 @@ ghost use Rattle.std.specs.Prelude.{◌≡◌, ◌+◌, ◌<◌, ◌≤◌, ℕ,
 ghost use Rattle.il_machine.specs.Acts as acts;
 ghost use Rattle.il_graph.specs.Shown.{KeepsAllFiles};
 ghost use Rattle.conductor.specs.declared.phase.ChangeStep.TheVariants.{Disable, Enable, Retune};
-ghost use Rattle.play_change_laws.specs.Conducting.{definition_key, planned, port_command};
+ghost use Rattle.play_world_laws.specs.Conducting.{definition_key, planned, port_command};
 ghost use Rattle.play_log.specs.Said.{SaysOf};
 ghost use Rattle.play_plan_laws.specs.Assemblies.{play_cast_of};
 ghost use Rattle.play_forms.specs.Plans.{IsValid};

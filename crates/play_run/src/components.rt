@@ -9,7 +9,7 @@ ghost use Rattle.audio_parts.specs.Objects.{ObjectShows, ObjectStays};
 ghost use Rattle.il_graph.specs.Shown.{KeepsAllFiles};
 ghost use Rattle.il_graph.specs.Claiming.{told_by as seen_by};
 ghost use Rattle.il_graph.specs.declared.claimed.Claimed.TheVariants as answers;
-ghost use Rattle.play_stage_laws.specs.Tellings.{IsTellingOf};
+ghost use Rattle.play_world_laws.specs.Tellings.{IsTellingOf};
 ghost use Rattle.play_turn_laws.specs.Turns.{IsRunOf, IsStepOf};
 ghost use Rattle.play_loop.specs.Turns.{SomePlay};
 ghost use Rattle.play_graph.specs.Stops.{IsEvent};

@@ -29,11 +29,11 @@ use Rattle.play_world_laws.proofs.Lists.{got_set, resolved, sum_same}
 use Rattle.play_world_laws.proofs.Picks.{pick_key}
 use Rattle.play_world_laws.specs.Changing.{is_joined_at}
 use Rattle.play_world_laws.specs.PlayWorlds.{IsActorAt, IsPlayWorld, IsWorkAt, PlayCast, end_of_link}
-use Rattle.play_change_laws.specs.Leading.{PlayLeadsTo}
-use Rattle.play_change_laws.proofs.Around.{wired_moves}
-use Rattle.play_change_laws.proofs.Claiming.{claim_announces}
-use Rattle.play_change_laws.proofs.Ends.{actor_there}
-use Rattle.play_change_laws.proofs.Kept.{actor_kept}
+use Rattle.play_world_laws.specs.Leading.{PlayLeadsTo}
+use Rattle.play_world_laws.proofs.Around.{wired_moves}
+use Rattle.play_world_laws.proofs.Claiming.{claim_announces}
+use Rattle.play_world_laws.proofs.ChangeEnds.{actor_there}
+use Rattle.play_world_laws.proofs.Kept.{actor_kept}
 use Rattle.play_step_laws.proofs.Claimable.{claim_can, claim_goes, step_can}
 use Rattle.play_step_laws.proofs.Claims.{AreTwoPorts, IsFirst, can, claim_viewed, firsts, first_stays, goes_out, out_is, out_links, ports_are, sound}
 use Rattle.play_step_laws.proofs.Poised.{IsPoised}

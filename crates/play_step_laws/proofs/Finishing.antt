@@ -33,9 +33,9 @@ use Rattle.play_world_laws.proofs.Ends.{place_there}
 use Rattle.play_world_laws.proofs.Lists.{got_set, sum_same}
 use Rattle.play_world_laws.proofs.Told.{stream_else, stream_gone}
 use Rattle.play_world_laws.specs.PlayWorlds.{IsActorAt, IsPlayWorld, IsWorkAt, PlayCast, end_of_link, left_to_make, port_notes, settings_notes}
-use Rattle.play_change_laws.specs.Leading.{PlayLeadsTo}
-use Rattle.play_change_laws.proofs.Around.{sum_fewer, wired_moves}
-use Rattle.play_link_laws.proofs.Passing.{left_keeps}
+use Rattle.play_world_laws.specs.Leading.{PlayLeadsTo}
+use Rattle.play_world_laws.proofs.Around.{sum_fewer, wired_moves}
+use Rattle.play_world_laws.proofs.PassedHeaders.{left_keeps}
 use Rattle.play_step_laws.proofs.Landings.{done}
 use Rattle.play_step_laws.proofs.Numbers.{step_acts}
 use Rattle.play_step_laws.proofs.Outgoing.{ends_is}

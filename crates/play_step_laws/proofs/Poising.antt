@@ -51,11 +51,11 @@ use Rattle.play_world_laws.proofs.Rooms.{end_notes, port_of_state, state_notes, 
 use Rattle.play_world_laws.proofs.Wanted.{HasPort, IsLinkAt, IsPlayPort, end_at}
 use Rattle.play_world_laws.specs.Changing.{commands_of_port, is_enabled_at, is_held_at, is_joined_at, is_set, is_set_at, mode_at, notes_of_port, state_by}
 use Rattle.play_world_laws.specs.PlayWorlds.{IsActorAt, IsEndAt, IsPlayWorld, PlayCast, announced_note, commands_of_end, end_of_link, notes_of_end, port_commands, port_notes, port_number, settings_notes, settings_of_end}
-use Rattle.play_change_laws.proofs.Claiming.{format_itself, late_reads}
-use Rattle.play_change_laws.proofs.Counting.{tunnel}
-use Rattle.play_change_laws.proofs.Ends.{actor_there, end_inside, end_there, ends_apart, port_end, unbroken_port}
-use Rattle.play_change_laws.proofs.Lists.{links_none, links_one, links_some}
-use Rattle.play_change_laws.proofs.Standing.{late_commands_are, no_loss, runs, runs_back}
+use Rattle.play_world_laws.proofs.Claiming.{format_itself, late_reads}
+use Rattle.play_world_laws.proofs.ChangeCounts.{tunnel}
+use Rattle.play_world_laws.proofs.ChangeEnds.{actor_there, end_inside, end_there, ends_apart, port_end, unbroken_port}
+use Rattle.play_world_laws.proofs.QueuedLists.{links_none, links_one, links_some}
+use Rattle.play_world_laws.proofs.Standing.{late_commands_are, no_loss, runs, runs_back}
 use Rattle.play_step_laws.proofs.Poised.{HasTaker, IsPoised}
 
 -- ---- a link whose change has come to its end, or of which nothing was to be changed

@@ -13,7 +13,7 @@ ghost use Rattle.play_model.specs.Play.{Play};
 ghost use Rattle.play_world_laws.specs.Cast.{components_of, script_place};
 ghost use Rattle.play_world_laws.specs.Worlds.{Names};
 ghost use Rattle.play_world_laws.specs.PlayWorlds.{IsPlayWorld, PlayCast};
-ghost use Rattle.play_change_laws.specs.Leading.{PlayLeadsTo};
+ghost use Rattle.play_world_laws.specs.Leading.{PlayLeadsTo};
 
 /// A claim is nothing for the play: a header of a work stands as if it were still in its port. A component of which no work is out gets
 /// one that doesn't announce exactly where the model can make a step of it.

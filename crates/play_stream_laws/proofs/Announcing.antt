@@ -24,7 +24,7 @@ use Rattle.play_stream_laws.specs.Flowing.{bytes_on}
 use Rattle.play_stream_laws.proofs.Closing.{closes_keep, flow_twice, keeps_twice, one_keeps, parts_kept}
 use Rattle.play_stream_laws.proofs.Keeping.{Keeps, KeepsFlow, seat}
 use Rattle.play_world_laws.specs.PlayWorlds.{IsPlayWorld, PlayCast}
-use Rattle.play_change_laws.proofs.Announced.{announce_can}
+use Rattle.play_world_laws.proofs.Announced.{announce_can}
 use Rattle.play_stream_laws.specs.PlayStreams.{HasPlayStreams}
 use Rattle.play_stream_laws.proofs.PlayClosing.{IsCalm, IsCalmAt, calm_same, calm_set, calm_there, calm_world, closes_calm, one_calm}
 use Rattle.play_stream_laws.proofs.PlayKeeping.{contents_kept, stays, streams_kept}

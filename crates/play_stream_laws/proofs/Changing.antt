@@ -34,8 +34,8 @@ use Rattle.play_stream_laws.specs.Contents.{PlayContents, Tells}
 use Rattle.play_stream_laws.proofs.Closing.{flow_twice, keeps_twice, one_flow, one_keeps}
 use Rattle.play_stream_laws.proofs.Keeping.{Keeps, seat}
 use Rattle.play_world_laws.specs.PlayWorlds.{IsActorAt, IsPlayWorld, PlayCast, port_number}
-use Rattle.play_change_laws.specs.Conducting.{definition_key, planned, port_command}
-use Rattle.play_change_laws.proofs.Ends.{HasEnd, actor_there, end_inside, end_there}
+use Rattle.play_world_laws.specs.Conducting.{definition_key, planned, port_command}
+use Rattle.play_world_laws.proofs.ChangeEnds.{HasEnd, actor_there, end_inside, end_there}
 use Rattle.play_stream_laws.specs.PlayContents.{HasPlayContents, IsSetAs}
 use Rattle.play_stream_laws.specs.PlayStreams.{HasPlayStreams}
 use Rattle.play_stream_laws.proofs.Acts.{act_closes, answered, set_closes, world_stays}

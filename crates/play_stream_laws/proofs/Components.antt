@@ -30,9 +30,9 @@ use Rattle.play_stream_laws.specs.Contents.{PlayContents}
 use Rattle.play_stream_laws.proofs.Closing.{one_keeps}
 use Rattle.play_stream_laws.proofs.Keeping.{KeepsFlow}
 use Rattle.play_world_laws.specs.PlayWorlds.{IsActorAt, IsPlayWorld, PlayCast, port_commands}
-use Rattle.play_change_laws.proofs.Ends.{actor_there}
-use Rattle.play_change_laws.proofs.Standing.{commands_are}
-use Rattle.play_stage_laws.proofs.Notes.{an_event}
+use Rattle.play_world_laws.proofs.ChangeEnds.{actor_there}
+use Rattle.play_world_laws.proofs.Standing.{commands_are}
+use Rattle.play_world_laws.proofs.StageNotes.{an_event}
 use Rattle.play_step_laws.proofs.Poising.{poised, ports_rest}
 use Rattle.play_stream_laws.specs.PlayStreams.{HasPlayStreams}
 use Rattle.play_stream_laws.proofs.Acts.{act_closes, answered, done_or_not, one_closes, world_stays}

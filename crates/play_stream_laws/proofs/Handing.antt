@@ -24,7 +24,7 @@ use Rattle.play_stream_laws.specs.Flowing.{contents_of, flowing_in, numbers_on}
 use Rattle.play_stream_laws.proofs.Keeping.{KeepsFlow}
 use Rattle.play_stream_laws.proofs.Listing.{contents_off, contents_same}
 use Rattle.play_world_laws.specs.PlayWorlds.{IsPlayWorld, PlayCast, end_of_link}
-use Rattle.play_change_laws.proofs.Around.{ends_differ}
+use Rattle.play_world_laws.proofs.Around.{ends_differ}
 use Rattle.play_stream_laws.proofs.PlayLinks.{all_of, not_among, not_there, of_owner}
 
 -- a header that fails the test of a list isn't missed there

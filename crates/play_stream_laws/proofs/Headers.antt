@@ -28,12 +28,12 @@ use Rattle.play_stream_laws.specs.Contents.{PlayContents}
 use Rattle.play_stream_laws.proofs.Closing.{flow_none}
 use Rattle.play_stream_laws.proofs.Keeping.{KeepsFlow}
 use Rattle.play_world_laws.specs.PlayWorlds.{IsPlayWorld, PlayCast, end_of_link, port_number}
-use Rattle.play_link_laws.proofs.Backs.{a, away_done, back_can, back_is, y}
-use Rattle.play_link_laws.proofs.Overs.{home_done, over_can, over_is}
-use Rattle.play_link_laws.proofs.Releases.{leaves_so, release_can, released_world}
-use Rattle.play_link_laws.proofs.Resting.{low}
-use Rattle.play_link_laws.proofs.Sides.{IsSide, away_is, home_is, other_is, side, supplier_is}
-use Rattle.play_link_laws.proofs.Unuseds.{gives_so, left, rests, to, unused_can, unused_is, unused_world}
+use Rattle.play_world_laws.proofs.Backs.{a, away_done, back_can, back_is, y}
+use Rattle.play_world_laws.proofs.Overs.{home_done, over_can, over_is}
+use Rattle.play_world_laws.proofs.Releases.{leaves_so, release_can, released_world}
+use Rattle.play_world_laws.proofs.RestingLinks.{low}
+use Rattle.play_world_laws.proofs.Sides.{IsSide, away_is, home_is, other_is, side, supplier_is}
+use Rattle.play_world_laws.proofs.Unuseds.{gives_so, left, rests, to, unused_can, unused_is, unused_world}
 use Rattle.play_stream_laws.specs.PlayStreams.{HasPlayStreams}
 use Rattle.play_stream_laws.proofs.Acts.{done_or_not, headers_close, world_stays}
 use Rattle.play_stream_laws.proofs.Handing.{handed_flow, made_flow, unmade_flow, unused_flow}

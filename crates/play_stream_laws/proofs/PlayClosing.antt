@@ -24,8 +24,8 @@ use Rattle.play_world_laws.proofs.Rooms.{port_of_state}
 use Rattle.play_stream_laws.proofs.Closing.{flow_none, flow_twice, is_pending, one_flow, pending_executing}
 use Rattle.play_stream_laws.proofs.Keeping.{KeepsFlow}
 use Rattle.play_world_laws.specs.PlayWorlds.{IsEndAt, IsPlayWorld, PlayCast, end_of_link}
-use Rattle.play_change_laws.proofs.Ends.{IsPortAt, port_end}
-use Rattle.play_change_laws.proofs.Standing.{pending_is}
+use Rattle.play_world_laws.proofs.ChangeEnds.{IsPortAt, port_end}
+use Rattle.play_world_laws.proofs.Standing.{pending_is}
 
 -- neither flushing nor with a waiting mark
 abbrev pub IsCalmPort : PortState → Type 0

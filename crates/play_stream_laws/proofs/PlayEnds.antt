@@ -35,7 +35,7 @@ use Rattle.play_stream_laws.proofs.Ends.{Begins, begins_all, front_of, same_dire
 use Rattle.play_stream_laws.proofs.Sinking.{sink_kind}
 use Rattle.play_world_laws.specs.Changing.{is_set}
 use Rattle.play_world_laws.specs.PlayWorlds.{IsActorAt, IsPlayWorld, PlayCast}
-use Rattle.play_change_laws.proofs.Ends.{HasEnd, end_there}
+use Rattle.play_world_laws.proofs.ChangeEnds.{HasEnd, end_there}
 use Rattle.play_stream_laws.specs.PlayContents.{HasPlayContents}
 use Rattle.play_stream_laws.specs.PlayStreams.{HasPlayStreams}
 use Rattle.play_stream_laws.proofs.Beginning.{net_is, sound_is}

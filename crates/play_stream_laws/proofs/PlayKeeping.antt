@@ -17,7 +17,7 @@ use Rattle.play_stream_laws.specs.Contents.{PlayContents, Tells, network_of}
 use Rattle.play_stream_laws.specs.Streams.{HasSunk}
 use Rattle.play_stream_laws.proofs.Keeping.{Keeps, KeepsFlow, mapped_there, no_bytes, part_in, seat}
 use Rattle.play_world_laws.specs.PlayWorlds.{IsPlayWorld, PlayCast}
-use Rattle.play_change_laws.proofs.Ends.{actor_there}
+use Rattle.play_world_laws.proofs.ChangeEnds.{actor_there}
 use Rattle.play_stream_laws.specs.PlayContents.{HasPlayContents, IsSetAs}
 use Rattle.play_stream_laws.specs.PlayStreams.{HasPlayStreams}
 use Rattle.play_stream_laws.proofs.PlayLinks.{flow_long}

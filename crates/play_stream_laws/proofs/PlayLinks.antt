@@ -23,8 +23,8 @@ use Rattle.play_stream_laws.proofs.Links.{AreOf, IsOf, of_append, of_frames}
 use Rattle.play_stream_laws.proofs.Listing.{frames_long, map_append}
 use Rattle.play_world_laws.specs.Changing.{is_joined_at}
 use Rattle.play_world_laws.specs.PlayWorlds.{IsActorAt, IsPlayWorld, PlayCast, end_of_link}
-use Rattle.play_change_laws.proofs.Counting.{tunnel}
-use Rattle.play_change_laws.proofs.Ends.{actor_there}
+use Rattle.play_world_laws.proofs.ChangeCounts.{tunnel}
+use Rattle.play_world_laws.proofs.ChangeEnds.{actor_there}
 
 map_none : {A B : Type 0} (f : A → B) (xs : List A) → map f xs ≡ [] → xs ≡ []
 map_none f [] h = refl

@@ -27,7 +27,7 @@ use Rattle.play_stream_laws.proofs.Keeping.{Keeps, mapped_there, seat}
 use Rattle.play_stream_laws.proofs.Stepping.{finished_is}
 use Rattle.play_stream_laws.proofs.Still.{IsStillThere}
 use Rattle.play_world_laws.specs.PlayWorlds.{IsPlayWorld, PlayCast}
-use Rattle.play_change_laws.proofs.Ends.{actor_there}
+use Rattle.play_world_laws.proofs.ChangeEnds.{actor_there}
 use Rattle.play_stream_laws.proofs.Announcing.{announced_is, announced_keeps}
 
 pub still_there : (x : PlayCast) (recent : ℕ) (p : Play) (w : World) (c : ℕ) → IsPlayWorld x recent p w → c < components_of x.cast → IsStillThere x.cast w c

@@ -24,7 +24,7 @@ ghost use Rattle.play_world_laws.specs.Cast.{away_at, components_of, giver_of, h
 ghost use Rattle.play_world_laws.specs.Standing.{target};
 ghost use Rattle.play_world_laws.specs.Worlds.{Names};
 ghost use Rattle.play_world_laws.specs.PlayWorlds.{IsPlayWorld, PlayCast, port_number};
-ghost use Rattle.play_change_laws.specs.Conducting.{definition_key, planned, port_command};
+ghost use Rattle.play_world_laws.specs.Conducting.{definition_key, planned, port_command};
 ghost use Rattle.play_stream_laws.specs.Contents.{PlayContents};
 ghost use Rattle.play_stream_laws.specs.Streams.{AreNew};
 ghost use Rattle.play_stream_laws.specs.PlayContents.{HasPlayContents};

@@ -13,7 +13,7 @@ use Rattle.play_plan_laws.proofs.Lawful.{plan_lawful}
 use Rattle.play_plan_laws.proofs.Opened.{assembled_opens}
 use Rattle.play_world_laws.specs.PlayWorlds.{IsPlayWorld}
 use Rattle.play_world_laws.proofs.Opened.{play_opens}
-use Rattle.play_stage_laws.specs.Waiting.{IsWaiting}
+use Rattle.play_world_laws.specs.Waiting.{IsWaiting}
 use Rattle.conductor.specs.Casting as conductors
 use Rattle.play_turn_laws.proofs.Casting.{plan_begins}
 use Rattle.play_turn_laws.specs.Playing.{IsBetweenTurns}

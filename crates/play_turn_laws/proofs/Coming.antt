@@ -22,20 +22,20 @@ use Rattle.play_loop.specs.Turns.{CanNone}
 use Rattle.play_world_laws.specs.Cast.{away_at, components_of, home_at, links_of, script_place}
 use Rattle.play_world_laws.specs.Worlds.{Names}
 use Rattle.play_world_laws.specs.PlayWorlds.{IsPlayWorld, PlayCast}
-use Rattle.play_change_laws.specs.Leading.{PlayLeadsTo}
-use Rattle.play_change_laws.proofs.Announced.{announce_finished}
-use Rattle.play_change_laws.proofs.Announcing.{announce_claimed}
-use Rattle.play_change_laws.proofs.Running.{run_port_can, run_port_leads}
-use Rattle.play_stage_laws.proofs.Runs.{run_leads}
-use Rattle.play_link_laws.proofs.Backs.{back_can, back_leads}
-use Rattle.play_link_laws.proofs.Overs.{over_can, over_leads}
-use Rattle.play_link_laws.proofs.Releases.{release_can, release_leads}
-use Rattle.play_link_laws.proofs.Unuseds.{unused_can, unused_leads}
-use Rattle.play_link_laws.proofs.Supplying.{supply_can, supply_leads}
+use Rattle.play_world_laws.specs.Leading.{PlayLeadsTo}
+use Rattle.play_world_laws.proofs.Announced.{announce_finished}
+use Rattle.play_world_laws.proofs.Announcing.{announce_claimed}
+use Rattle.play_world_laws.proofs.Running.{run_port_can, run_port_leads}
+use Rattle.play_world_laws.proofs.StageRuns.{run_leads}
+use Rattle.play_world_laws.proofs.Backs.{back_can, back_leads}
+use Rattle.play_world_laws.proofs.Overs.{over_can, over_leads}
+use Rattle.play_world_laws.proofs.Releases.{release_can, release_leads}
+use Rattle.play_world_laws.proofs.Unuseds.{unused_can, unused_leads}
+use Rattle.play_world_laws.proofs.SupplyCalls.{supply_can, supply_leads}
 use Rattle.play_step_laws.proofs.Claiming.{claim_accepted}
 use Rattle.play_step_laws.proofs.Finishing.{finish_leads}
-use Rattle.play_stage_laws.specs.Tellings.{IsTellingOf}
-use Rattle.play_stage_laws.proofs.ToldActs.{queued_so, told_so}
+use Rattle.play_world_laws.specs.Tellings.{IsTellingOf}
+use Rattle.play_world_laws.proofs.ToldActs.{queued_so, told_so}
 use Rattle.play_turn_laws.specs.Conducting.{IsOwnAct}
 use Rattle.play_turn_laws.specs.Turns.{IsAct, IsBackOf, IsRunOf, IsStepOf, PlayCame, is_did}
 

@@ -28,11 +28,11 @@ use Rattle.play_world_laws.specs.Worlds.{ends_untold}
 use Rattle.play_world_laws.proofs.Rooms.{port_of_state}
 use Rattle.play_plan_laws.specs.Endings.{IsAtEnd}
 use Rattle.play_world_laws.specs.PlayWorlds.{IsActorAt, IsPlayWorld, PlayCast, announced_note, commands_of_end, end_of_link, notes_of_end, port_commands, port_notes, port_number, settings_notes, settings_of_end}
-use Rattle.play_change_laws.proofs.Ends.{end_inside}
-use Rattle.play_change_laws.proofs.Lists.{links_none}
-use Rattle.play_change_laws.proofs.Standing.{late_commands_are, pending_is, state_is}
-use Rattle.play_change_laws.proofs.Counting.{made_output}
-use Rattle.play_stage_laws.proofs.CalmHappenings.{IsResting as IsResting_change, free, its_end, its_port, joined, resting}
+use Rattle.play_world_laws.proofs.ChangeEnds.{end_inside}
+use Rattle.play_world_laws.proofs.QueuedLists.{links_none}
+use Rattle.play_world_laws.proofs.Standing.{late_commands_are, pending_is, state_is}
+use Rattle.play_world_laws.proofs.ChangeCounts.{made_output}
+use Rattle.play_world_laws.proofs.CalmHappenings.{IsResting as IsResting_change, free, its_end, its_port, joined, resting}
 use Rattle.play_turn_laws.specs.Sides.{sides_of}
 
 -- ---- links

@@ -8,8 +8,8 @@ use Rattle.play_model.specs.Changes.{Change, conducted, port_on, told_on}
 use Rattle.play_model.specs.Play.{Layout, Play}
 use Rattle.play_world_laws.specs.Cast.{Cast}
 use Rattle.play_plan_laws.proofs.Links.{two_ways}
-use Rattle.play_change_laws.proofs.Around.{change_else, change_here}
-use Rattle.play_change_laws.proofs.Turning.{step_stays}
+use Rattle.play_world_laws.proofs.Around.{change_else, change_here}
+use Rattle.play_world_laws.proofs.Turning.{step_stays}
 use Rattle.play_turn_laws.specs.Conducting.{AreCarriedOut, AreLates, AreOnLink, HasGoneOn, IsCarriedOut, IsLateAt, IsLateOf, IsOwnAct, IsToldBy, IsUnderWay}
 
 -- ---- a change goes on

@@ -17,7 +17,7 @@ use Rattle.play_world_laws.specs.Standing.{target}
 use Rattle.play_plan_laws.specs.Conducting.{HasViews}
 use Rattle.play_world_laws.specs.PlayWorlds.{PlayCast}
 use Rattle.play_world_laws.proofs.Begins.{begins}
-use Rattle.play_stage_laws.proofs.Waiting.{waits_on}
+use Rattle.play_world_laws.proofs.Waiting.{waits_on}
 use Rattle.play_turn_laws.specs.Conducting.{AreCarriedOut, AreLates, HasGoneOn, IsChangeOf, IsPlayConducting, IsPlayConductor, IsLateOf, IsUnderWay, step_from, step_to}
 use Rattle.play_turn_laws.proofs.Changing.{conductor_waits}
 use Rattle.play_turn_laws.proofs.Hearing.{conductor_hears}

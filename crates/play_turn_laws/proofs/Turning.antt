@@ -8,12 +8,12 @@ use Rattle.play_model.specs.Acts.Act.{Begin, Send, Run, Happen, Tell, TellEnd, S
 use Rattle.play_model.specs.Play.{Layout, Play}
 use Rattle.play_world_laws.specs.Cast.{Cast}
 use Rattle.play_world_laws.specs.PlayWorlds.{IsPlayWorld, PlayCast}
-use Rattle.play_change_laws.specs.Leading.{PlayLeadsTo}
-use Rattle.play_stage_laws.specs.Happenings.{AreHappenings, IsHappening}
-use Rattle.play_stage_laws.specs.Waiting.{IsWaiting}
-use Rattle.play_stage_laws.proofs.Closing.{closes_lead}
-use Rattle.play_stage_laws.proofs.Happening.{none_due}
-use Rattle.play_stage_laws.proofs.Waiting.{waits_on}
+use Rattle.play_world_laws.specs.Leading.{PlayLeadsTo}
+use Rattle.play_world_laws.specs.Happenings.{AreHappenings, IsHappening}
+use Rattle.play_world_laws.specs.Waiting.{IsWaiting}
+use Rattle.play_world_laws.proofs.Closing.{closes_lead}
+use Rattle.play_world_laws.proofs.StageHappening.{none_due}
+use Rattle.play_world_laws.proofs.Waiting.{waits_on}
 use Rattle.play_turn_laws.specs.Conducting.{AreCarriedOut, AreLates, AreOnLink, IsOwnAct}
 use Rattle.play_turn_laws.proofs.Keeping.{acts_gone, acts_keep, carried_kept, lates_kept}
 use Rattle.play_turn_laws.specs.Turns.{IsPlayChange, IsPlayTurn}

@@ -5,7 +5,7 @@ use Rattle.conductor.specs.Hearing.{ConductorValue}
 use Rattle.play_model.specs.Numbers.{not_sent}
 use Rattle.play_model.specs.Play.{Layout, Play}
 use Rattle.play_world_laws.specs.PlayWorlds.{IsPlayWorld, PlayCast}
-use Rattle.play_stage_laws.specs.Waiting.{IsWaiting}
+use Rattle.play_world_laws.specs.Waiting.{IsWaiting}
 use Rattle.play_turn_laws.specs.Conducting.{AreCarriedOut, IsPlayConducting}
 
 -- no state that was begun is still to be sent to a component

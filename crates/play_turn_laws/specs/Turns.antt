@@ -10,8 +10,8 @@ use Rattle.play_model.specs.Acts.Act.{Announce, HandBack, HandUnused, Run, RunPo
 use Rattle.play_model.specs.Play.{Layout, Play, component_at}
 use Rattle.play_loop.specs.Turns.{CanNone, HasActed, IsAtRest}
 use Rattle.play_world_laws.specs.PlayWorlds.{IsPlayWorld, PlayCast}
-use Rattle.play_change_laws.specs.Leading.{PlayLeadsTo}
-use Rattle.play_stage_laws.specs.Waiting.{IsWaiting}
+use Rattle.play_world_laws.specs.Leading.{PlayLeadsTo}
+use Rattle.play_world_laws.specs.Waiting.{IsWaiting}
 use Rattle.play_turn_laws.specs.Conducting.{AreCarriedOut, AreLates, HasGoneOn, IsLateOf, IsOwnAct, IsUnderWay}
 
 -- the component's command is run: the conductor's StateSet, or the disable or enable of a port

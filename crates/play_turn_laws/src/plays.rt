@@ -16,7 +16,7 @@ ghost use Rattle.play_world_laws.specs.Openings.{opening};
 ghost use Rattle.play_plan_laws.specs.Assemblies.{IsReady, PlayFiles, assembly_of, play_cast_of};
 ghost use Rattle.play_plan_laws.specs.Endings.{IsPlayedOut, ends_of};
 ghost use Rattle.play_world_laws.specs.PlayWorlds.{IsPlayWorld, PlayCast};
-ghost use Rattle.play_stage_laws.specs.Waiting.{IsWaiting};
+ghost use Rattle.play_world_laws.specs.Waiting.{IsWaiting};
 ghost use Rattle.play_turn_laws.specs.Playing.{IsBetweenTurns};
 ghost use Rattle.play_turn_laws.specs.Sides.{sides_of};
 

@@ -29,9 +29,9 @@ ghost use Rattle.play_world_laws.specs.Cast.{away_at, components_of, home_at, li
 ghost use Rattle.play_world_laws.specs.Worlds.{Names};
 ghost use Rattle.play_plan_laws.specs.Conducting.{HasViews};
 ghost use Rattle.play_world_laws.specs.PlayWorlds.{IsPlayWorld, PlayCast};
-ghost use Rattle.play_change_laws.specs.Leading.{PlayLeadsTo};
-ghost use Rattle.play_stage_laws.specs.Waiting.{IsWaiting};
-ghost use Rattle.play_stage_laws.specs.Tellings.{IsTellingOf};
+ghost use Rattle.play_world_laws.specs.Leading.{PlayLeadsTo};
+ghost use Rattle.play_world_laws.specs.Waiting.{IsWaiting};
+ghost use Rattle.play_world_laws.specs.Tellings.{IsTellingOf};
 ghost use Rattle.play_turn_laws.specs.Conducting.{AreCarriedOut, HasGoneOn, IsChangeOf, IsPlayConducting, IsPlayConductor, IsLateOf, IsOwnAct, IsUnderWay, step_from, step_to};
 ghost use Rattle.play_turn_laws.specs.Playing.{AreSent, IsBetweenTurns, IsPlayConducted};
 ghost use Rattle.play_turn_laws.specs.Turns.{IsAct, IsBackOf, IsPlayChange, IsPlayTurn, IsRunOf, IsStepOf, PlayCame, is_did};

@@ -8,3 +8,8 @@ pub mod Wiring
 pub mod Worlds
 pub mod Changing
 pub mod PlayWorlds
+pub mod Conducting
+pub mod Leading
+pub mod Tellings
+pub mod Waiting
+pub mod Happenings

@@ -1,3 +1,6 @@
 pub mod Files
 pub mod Failing
 pub mod Leaving
+pub mod Entries
+pub mod Histories
+pub mod Lines

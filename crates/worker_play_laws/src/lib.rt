@@ -1,118 +1,21 @@
-//! What a play by workers leaves of its files, and what is told where steps failed. Laws without code.
+//! What a play by workers leaves, whatever the schedule: the history of a board that its passes share as the play of a plan, with its log; the
+//! files that it leaves; and what is told of it where steps failed. Stated on functions that do nothing; the player by workers stands on them.
 #![tactic(auto)]
 
-ghost use Rattle.std.specs.Prelude.{All, List, None, Option, Some, is_some, slice_get, true, ◌<◌, ◌≡◌, ℕ, length};
-ghost use Rattle.omx_types.specs.declared.fault.PartFault.{PartFault};
-ghost use Rattle.il_machine.specs.Acts.{Act, Reply};
-ghost use Rattle.il_machine.specs.Files.{Offered};
-ghost use Rattle.il_machine.specs.declared.answer.Progress.{Progress};
-ghost use Rattle.il_machine.specs.Run.{Run};
-ghost use Rattle.il_machine.specs.Sound.{Sound};
-ghost use Rattle.il_machine.specs.Stepping.{is_fault_of};
-ghost use Rattle.il_machine.specs.World.{Component, Stream, World, component_numbered, stream_of};
-ghost use Rattle.audio_parts.specs.declared.part_file.PartFile.{PartFile};
-ghost use Rattle.il_graph.specs.Shown.{Shown, TellWritten, file_of, offered};
-ghost use Rattle.script_lang.specs.declared.play_line.PartLine.{PartLine};
-ghost use Rattle.play_forms.specs.Parts.{kind_of};
-ghost use Rattle.play_forms.specs.Plain.{sink_text};
-ghost use Rattle.play_forms.specs.Plans.{PlanValue};
-ghost use Rattle.play_plan_laws.specs.Assemblies.{IsReady, PlayFiles, file_at};
-ghost use Rattle.play_plan_laws.specs.Endings.{IsPlayedOut};
-ghost use Rattle.play_result_laws.specs.Files.{AreSamples, IsWriter};
-ghost use Rattle.play_result_laws.specs.Results.{IsPlayLog};
-ghost use Rattle.play_result_laws.specs.Texts.{HasWrittenFront};
-ghost use Rattle.play_result_laws.specs.Worlds.{HasWritten, IsOpening};
-ghost use Rattle.play_files.specs.Seen.{FileSeen, file_seen, files_seen};
-ghost use Rattle.play_graph.specs.Ending.{AreFilesOf};
-ghost use Rattle.play_graph.specs.Making.{AreOffered};
-ghost use Rattle.play_course.specs.declared.player.RunFault.{RunFault};
-ghost use Rattle.play_course.specs.Failing.{HasFailure, LeavesWorld, ShowsAt, TellsFirst};
-ghost use Rattle.play_course.specs.Players.{IsFailed, IsPlayedWhole};
-ghost use Rattle.play_course.specs.Running.{AreSameFiles, HasTaken, IsRunCause};
-ghost use Rattle.play_run.specs.Faults.{fault_at};
-ghost use Rattle.play_run.specs.Playing.{ToldAlike};
-ghost use Rattle.worker_play_laws.specs.Failing.{AreTold, Failure, IsFirstOf, IsToldFirst};
-ghost use Rattle.worker_play_laws.specs.Files.{HaveStayed, ShowsSince, is_steady};
-ghost use Rattle.worker_play_laws.specs.Leaving.{IsLeftWith, IsSteadyRun};
+mod board_entries;
+mod board_failures;
+mod board_files;
+mod board_gates;
+mod board_logs;
+mod board_plays;
+mod failures;
+mod left_files;
 
-use outside_io::{Sink, Source};
-
-/// What each file told when it came stays along a run in which no component is made or freed, and no file comes.
-pub fn law_of_told_files()
-    ensures { (world after : World) (steps : List (Act × Reply)) → Sound world → All (λ step. is_steady step.0 ≡ true) steps → Run world steps after
-        → ToldAlike world after }
-{}
-
-/// Of the failures that threads tell the first is told of the play, whose fault is that of the run; and where each failed step shows in its
-/// component's file, so does the fault of the run.
-pub fn law_of_failures()
-    ensures told { (steps : List (Act × Reply)) (place : ℕ) (fault : PartFault) → IsToldFirst steps place fault → TellsFirst steps (fault_at place fault) }
-    ensures among { (steps : List (Act × Reply)) (failures : List Failure) (failure : Failure) → AreTold steps failures → IsFirstOf failures failure
-        → IsToldFirst steps failure.place failure.fault }
-    ensures cause { (before after : List (Option FileSeen)) (steps : List (Act × Reply)) (fault : RunFault) → TellsFirst steps fault
-        → ((place : ℕ) (why : PartFault) → HasFailure steps place why → ShowsAt before after place why) → IsRunCause before after fault }
-{}
-
-/// A step that fails is one of a component of the plan, of a kind that may fail so, which has a file.
-pub fn law_of_failed_places()
-    ensures part { (plan : PlanValue) (given : PlayFiles) (steps : List (Act × Reply)) (world : World) → IsSteadyRun plan given steps world
-        → (place : ℕ) (why : PartFault) → HasFailure steps place why
-        → (part : PartLine) × (slice_get plan.parts place ≡ Some part) × (is_fault_of (kind_of part.form) why ≡ true) }
-    ensures file { (plan : PlanValue) (given : PlayFiles) (steps : List (Act × Reply)) (world : World) → IsSteadyRun plan given steps world → IsReady plan given
-        → (place : ℕ) (why : PartFault) → HasFailure steps place why → (file : Offered) × (file_at plan given place ≡ Some file) }
-{}
-
-/// Where the file objects of a graph stayed, which it had at first from these places, and went back to them: each file is at its place again,
-/// what was written to a sink it took, and where a step failed its component's file shows it. The graph had an object of each component of which a step fails.
-pub fn law_of_worked_files<S: Source, K: Sink>()
-    ensures same { (places : ℕ) (first now : Shown S K Progress) (entries back : List (Option (PartFile S K)))
-        → length entries ≡ places → length back ≡ places → AreFilesOf first places entries → AreFilesOf now places back → HaveStayed S.Source K.Sink first now
-        → AreSameFiles (files_seen (file_seen S.Source K.Sink) entries) (files_seen (file_seen S.Source K.Sink) back) }
-    ensures took { (plan : PlanValue) (given : PlayFiles) (first now : Shown S K Progress) (entries back : List (Option (PartFile S K))) (opening world : World)
-        → length entries ≡ length plan.parts → length back ≡ length plan.parts → AreFilesOf first (length plan.parts) entries → AreFilesOf now (length plan.parts) back
-        → HaveStayed S.Source K.Sink first now → AreOffered plan given (offered S.offset S.size S.told K.told) entries
-        → IsOpening plan given opening → ToldAlike opening world → TellWritten K.told now world
-        → (place : ℕ) (name : List ℕ) → IsWriter plan.parts place name → (component : Component) → component_numbered place world ≡ Some component → component.work ≡ None
-        → (stream : Stream) → stream_of place world ≡ Some stream
-        → HasTaken (files_seen (file_seen S.Source K.Sink) entries) (files_seen (file_seen S.Source K.Sink) back) place stream.written }
-    ensures shows { (places : ℕ) (first now : Shown S K Progress) (entries back : List (Option (PartFile S K)))
-        → AreFilesOf first places entries → AreFilesOf now places back → (place : ℕ) (fault : PartFault) → place < places → ShowsSince S.Source K.Sink first now place fault
-        → ShowsAt (files_seen (file_seen S.Source K.Sink) entries) (files_seen (file_seen S.Source K.Sink) back) place fault }
-    ensures object { (plan : PlanValue) (given : PlayFiles) (first : Shown S K Progress) (entries : List (Option (PartFile S K))) (steps : List (Act × Reply)) (world : World)
-        → IsReady plan given → AreOffered plan given (offered S.offset S.size S.told K.told) entries → AreFilesOf first (length plan.parts) entries
-        → IsSteadyRun plan given steps world → (place : ℕ) (why : PartFault) → HasFailure steps place why → is_some (file_of place first) ≡ true }
-{}
-
-/// Of a play that was stopped: each file is at its place again (`same`), and a sink took what was written to it (`took`). Where that is each
-/// sink's text, and the log is one of a play that is over, the play was done whole (`whole`); where it is a front of each, it failed so
-/// (`failed`). Where each failed step shows in a file object, the world is one that a run left (`left`), and the fault that is told has its
-/// cause in a file (`cause`).
-pub fn law_of_left_files<S: Source, K: Sink>()
-    ensures same { (plan : PlanValue) (given : PlayFiles) (first now : Shown S K Progress) (entries back : List (Option (PartFile S K))) (steps : List (Act × Reply)) (world : World)
-        → IsLeftWith S.Source K.Sink plan given first now entries back steps world
-        → AreSameFiles (files_seen (file_seen S.Source K.Sink) entries) (files_seen (file_seen S.Source K.Sink) back) }
-    ensures took { (plan : PlanValue) (given : PlayFiles) (first now : Shown S K Progress) (entries back : List (Option (PartFile S K))) (steps : List (Act × Reply)) (world : World)
-        → IsLeftWith S.Source K.Sink plan given first now entries back steps world → (place : ℕ) (name : List ℕ) → IsWriter plan.parts place name
-        → (bytes : List ℕ) × HasTaken (files_seen (file_seen S.Source K.Sink) entries) (files_seen (file_seen S.Source K.Sink) back) place bytes × HasWritten world place bytes }
-    ensures whole { (plan : PlanValue) (given : PlayFiles) (first now : Shown S K Progress) (entries back : List (Option (PartFile S K))) (steps : List (Act × Reply)) (world : World)
-        → IsLeftWith S.Source K.Sink plan given first now entries back steps world
-        → (workers : ℕ) (text : List ℕ) → IsPlayLog workers plan given text world → IsPlayedOut plan world
-        → ((samples : List (List ℕ)) → AreSamples plan given samples → (place : ℕ) (name : List ℕ) → IsWriter plan.parts place name
-        → HasWritten world place (sink_text plan samples place))
-        → IsPlayedWhole workers plan given (files_seen (file_seen S.Source K.Sink) entries) (files_seen (file_seen S.Source K.Sink) back) text }
-    ensures failed { (plan : PlanValue) (given : PlayFiles) (first now : Shown S K Progress) (entries back : List (Option (PartFile S K))) (steps : List (Act × Reply)) (world : World)
-        → IsLeftWith S.Source K.Sink plan given first now entries back steps world
-        → ((samples : List (List ℕ)) → AreSamples plan given samples → (place : ℕ) (name : List ℕ) → IsWriter plan.parts place name
-        → HasWrittenFront world place (sink_text plan samples place))
-        → IsFailed plan given (files_seen (file_seen S.Source K.Sink) entries) (files_seen (file_seen S.Source K.Sink) back) }
-    ensures left { (plan : PlanValue) (given : PlayFiles) (first now : Shown S K Progress) (entries back : List (Option (PartFile S K))) (steps : List (Act × Reply)) (world : World)
-        → IsLeftWith S.Source K.Sink plan given first now entries back steps world
-        → ((place : ℕ) (why : PartFault) → HasFailure steps place why → ShowsSince S.Source K.Sink first now place why)
-        → (fault : RunFault) → TellsFirst steps fault
-        → LeavesWorld plan given (files_seen (file_seen S.Source K.Sink) entries) (files_seen (file_seen S.Source K.Sink) back) fault }
-    ensures cause { (plan : PlanValue) (given : PlayFiles) (first now : Shown S K Progress) (entries back : List (Option (PartFile S K))) (steps : List (Act × Reply)) (world : World)
-        → IsLeftWith S.Source K.Sink plan given first now entries back steps world
-        → ((place : ℕ) (why : PartFault) → HasFailure steps place why → ShowsSince S.Source K.Sink first now place why)
-        → (fault : RunFault) → TellsFirst steps fault
-        → IsRunCause (files_seen (file_seen S.Source K.Sink) entries) (files_seen (file_seen S.Source K.Sink) back) fault }
-{}
+pub use board_entries::law_of_board_entries;
+pub use board_failures::law_of_board_failures;
+pub use board_files::law_of_board_files;
+pub use board_gates::law_of_board_gates;
+pub use board_logs::law_of_board_logs;
+pub use board_plays::law_of_board_plays;
+pub use failures::{law_of_failed_places, law_of_failures};
+pub use left_files::{law_of_left_files, law_of_told_files, law_of_worked_files};

@@ -29,11 +29,12 @@ ghost use Rattle.omxrun.specs.Sights.{all_seen};
 use conductor::PlayClient;
 use outside_io::{Sink, Source};
 use play_graph::law_of_stops;
+use play_history_laws::{law_of_left_plays, law_of_worked_plays};
 use play_worker::Gate;
-use worked_play_laws::{law_of_left_plays, law_of_worked_plays};
-use worker_file_laws::{law_of_board_failures, law_of_board_files};
-use worker_history_laws::{law_of_board_gates, law_of_board_logs, law_of_board_plays};
-use worker_play_laws::law_of_left_files;
+use worker_play_laws::{
+    law_of_board_failures, law_of_board_files, law_of_board_gates, law_of_board_logs,
+    law_of_board_plays, law_of_left_files,
+};
 
 /// A graph that was made can be played, for nothing is out of it; or stopped, and each file that goes back is then as it was.
 pub(crate) fn law_of_made_graphs<S: Source, K: Sink>()

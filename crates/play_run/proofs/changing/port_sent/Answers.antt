@@ -1,6 +1,6 @@
 use Rattle.std.proofs.Common.{Bool, Ok, sym, subst}
 use Rattle.il_machine.specs.Acts as acts
-use Rattle.play_change_laws.specs.Conducting.{port_command}
+use Rattle.play_world_laws.specs.Conducting.{port_command}
 use Rattle.play_log.specs.Said.{SaysOf}
 use Rattle.play_run.proofs.changing.port_sent.Goals as goal
 

@@ -3,7 +3,7 @@ use Rattle.audio_parts.specs.ObjectLaws.{object_further, object_itself, shows_ea
 use Rattle.audio_parts.specs.Objects.{ObjectShows, ObjectStays}
 use Rattle.il_graph.specs.Shown.{file_of}
 use Rattle.play_loop.specs.Turns.{IsOfComponent}
-use Rattle.play_stage_laws.specs.Tellings.{IsTellingOf}
+use Rattle.play_world_laws.specs.Tellings.{IsTellingOf}
 use Rattle.play_turn_laws.specs.Turns.{IsRunOf}
 use Rattle.play_run.specs.Playing.{FilesStay, layout_of, unfailed}
 use Rattle.play_run.specs.Leading.{fails_on, leads_on}

@@ -1,3 +1,0 @@
-pub mod Landing
-pub mod Flowing
-pub mod Undoing

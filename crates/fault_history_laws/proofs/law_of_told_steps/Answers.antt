@@ -1,5 +1,0 @@
-use Rattle.fault_history_laws.proofs.Telling.{all_named, told_so}
-use Rattle.fault_history_laws.proofs.law_of_told_steps.Goals as goal
-
-pub returns : goal.returns
-returns c = record { told = told_so; named = all_named }

@@ -1,5 +1,0 @@
-pub mod Behind
-pub mod Hearing
-pub mod Standing
-pub mod Changing
-pub mod Keeping

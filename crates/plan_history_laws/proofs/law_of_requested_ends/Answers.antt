@@ -1,8 +1,0 @@
-use Rattle.plan_history_laws.proofs.Ends.{all_rest, played_out}
-use Rattle.plan_history_laws.proofs.law_of_requested_ends.Goals as goal
-
-pub returns : goal.returns
-returns c = record {
-  rests = λ plan files handles w R S links steps A v r. all_rest plan files R handles w S links steps A v r;
-  ended = λ plan files handles w R S links steps A v r. played_out plan files R handles w S links steps A v r;
-}

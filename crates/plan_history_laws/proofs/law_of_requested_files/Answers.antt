@@ -1,9 +1,0 @@
-use Rattle.plan_history_laws.proofs.Files.{requested_fronts, requested_none, requested_whole}
-use Rattle.plan_history_laws.proofs.law_of_requested_files.Goals as goal
-
-pub returns : goal.returns
-returns c = record {
-  none_failed = requested_none;
-  whole = λ plan files samples R F handles w S links left steps A v r. requested_whole plan files R handles w S links left steps A v r samples F;
-  fronts = λ plan files samples R F handles w S links left steps A v r. requested_fronts plan files R handles w S links left steps A v r samples F;
-}

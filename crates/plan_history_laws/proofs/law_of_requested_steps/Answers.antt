@@ -1,8 +1,0 @@
-use Rattle.plan_history_laws.proofs.Conducted.{conducted_requested, front_requested}
-use Rattle.plan_history_laws.proofs.Ordered.{history_ordered}
-use Rattle.plan_history_laws.proofs.Own.{own_requests}
-use Rattle.plan_history_laws.proofs.Requested.{requested_history}
-use Rattle.plan_history_laws.proofs.law_of_requested_steps.Goals as goal
-
-pub returns : goal.returns
-returns c = record { goes = requested_history; conducted = conducted_requested; asks = history_ordered; own = own_requests; fronts = front_requested }

@@ -1,4 +1,0 @@
-pub mod Askings
-pub mod Requests
-pub mod Refused
-pub mod Passes

@@ -1,5 +1,0 @@
-use Rattle.play_change_laws.proofs.Running.{run_port_can, run_port_leads}
-use Rattle.play_change_laws.proofs.law_of_port_runs.Goals as goal
-
-pub returns : goal.returns
-returns c = record { done = run_port_leads; can = run_port_can }

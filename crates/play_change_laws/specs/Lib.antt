@@ -1,2 +1,0 @@
-pub mod Conducting
-pub mod Leading

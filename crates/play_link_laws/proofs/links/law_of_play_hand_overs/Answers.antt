@@ -1,5 +1,0 @@
-use Rattle.play_link_laws.proofs.Overs.{over_can, over_leads}
-use Rattle.play_link_laws.proofs.links.law_of_play_hand_overs.Goals as goal
-
-pub returns : goal.returns
-returns c = record { done = over_leads; can = over_can }

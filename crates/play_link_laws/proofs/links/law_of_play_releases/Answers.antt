@@ -1,5 +1,0 @@
-use Rattle.play_link_laws.proofs.Releases.{release_can, release_leads}
-use Rattle.play_link_laws.proofs.links.law_of_play_releases.Goals as goal
-
-pub returns : goal.returns
-returns c = record { done = release_leads; can = release_can }

@@ -1,5 +1,0 @@
-use Rattle.play_stage_laws.proofs.ToldActs.{its_event, queued_so, told_so}
-use Rattle.play_stage_laws.proofs.clients.law_of_play_tellings.Goals as goal
-
-pub returns : goal.returns
-returns c = record { told = told_so; queued = queued_so; event = its_event }

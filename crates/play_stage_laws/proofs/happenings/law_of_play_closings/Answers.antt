@@ -1,5 +1,0 @@
-use Rattle.play_stage_laws.proofs.Closing.{act_closes, idle_closes}
-use Rattle.play_stage_laws.proofs.happenings.law_of_play_closings.Goals as goal
-
-pub returns : goal.returns
-returns c = record { acted = act_closes; idle = idle_closes }

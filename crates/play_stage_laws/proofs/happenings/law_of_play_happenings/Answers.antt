@@ -1,6 +1,0 @@
-use Rattle.play_stage_laws.proofs.Closing.{closes_lead}
-use Rattle.play_stage_laws.proofs.Happening.{none_due, one_happens}
-use Rattle.play_stage_laws.proofs.happenings.law_of_play_happenings.Goals as goal
-
-pub returns : goal.returns
-returns c = record { one = one_happens; closing = closes_lead; none = none_due }

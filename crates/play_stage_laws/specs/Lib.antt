@@ -1,3 +1,0 @@
-pub mod Tellings
-pub mod Waiting
-pub mod Happenings

@@ -1,5 +1,0 @@
-use Rattle.worked_play_laws.proofs.Looking.{looks_behind}
-use Rattle.worked_play_laws.proofs.conducting.law_of_looks.Goals as goal
-
-pub returns : goal.returns
-returns c = record { looks = λ x k recent p ss w D component handle progress b n e none. looks_behind x k recent p ss w D component handle progress b n e none }
