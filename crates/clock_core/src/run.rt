@@ -2,6 +2,7 @@
 
 ghost use Rattle.std.specs.Prelude.{◌≡◌, ◌≢◌, ◌∷◌, ◌<◌, ◌≤◌, ◌+◌, ℕ, List, length, IsUtf8, OnOk, IfOk, IfErr, IfSome, Err};
 ghost use Rattle.outside_io.specs.Keeping.{KeepsSink};
+ghost use Rattle.outside_io.specs.Writings.{WritesOn, WritesUntil};
 ghost use Rattle.std.specs.Io.KnownBytes.{append_known};
 ghost use Rattle.line_text.specs.Lines.{lines_of};
 ghost use Rattle.line_text.specs.Words.{words_of};
@@ -33,6 +34,7 @@ pub fn run_clock<O: Sink>(bytes: &[u8], out: &mut O) -> Result<(), Fault>
     ensures faulty { (line : ℕ) (why : Why) → IsFaulty bytes.now line why → result ≡ Err (faults.Script line why) }
     ensures stays { result ≢ Err faults.WriteFault → O.faults out.new ≡ O.faults out.old }
     ensures keeps_sink { KeepsSink O.Sink out.old out.new }
+    ensures writing { WritesUntil faults.WriteFault (O.writing out.old) (O.writing out.new) result }
 {
     run_lines(lines_in(bytes)?, out)
 }
@@ -114,6 +116,7 @@ fn run_lines<O: Sink>(text: &[u8], out: &mut O) -> Result<(), Fault>
     ensures failed { IfErr result (IsWriteFault (O.faults out.old) (O.faults out.new) (O.told out.old) (O.told out.new) (printed 1 opening (calls_in (lines_of text.now)))) }
     ensures stays { OnOk result (O.faults out.new ≡ O.faults out.old) }
     ensures keeps_sink { KeepsSink O.Sink out.old out.new }
+    ensures writing { WritesOn (O.writing out.old) (O.writing out.new) result }
 {
     let mut clock = Clock::new();
     let mut number: u64 = 1;
@@ -133,6 +136,7 @@ fn run_line<O: Sink>(clock: &mut Clock, number: u64, line: &[u8], out: &mut O) -
     ensures failed { IfErr result (λ fault. (lines : List (List ℕ)) → IsWriteFault (O.faults out.old) (O.faults out.new) (O.told out.old) (O.told out.new) (printed number clock.old (calls_in (line.now ∷ lines))) fault) }
     ensures stays { OnOk result (O.faults out.new ≡ O.faults out.old) }
     ensures keeps_sink { KeepsSink O.Sink out.old out.new }
+    ensures writing { WritesOn (O.writing out.old) (O.writing out.new) result }
 {
     match asked_by(line) {
         Some(call) => {
@@ -169,6 +173,7 @@ fn run_call<O: Sink>(
     ensures failed { IfErr result (IsWriteFault (O.faults out.old) (O.faults out.new) (O.told out.old) (O.told out.new) (call_text number clock.old (call_words call) call)) }
     ensures stays { OnOk result (O.faults out.new ≡ O.faults out.old) }
     ensures keeps_sink { KeepsSink O.Sink out.old out.new }
+    ensures writing { WritesOn (O.writing out.old) (O.writing out.new) result }
 {
     let text = text_of(clock, number, call);
     write(out, text.as_slice())
@@ -207,6 +212,7 @@ fn write<O: Sink>(out: &mut O, text: &[u8]) -> Result<(), Fault>
     ensures failed { IfErr result (IsWriteFault (O.faults out.old) (O.faults out.new) (O.told out.old) (O.told out.new) text.now) }
     ensures stays { OnOk result (O.faults out.new ≡ O.faults out.old) }
     ensures keeps_sink { KeepsSink O.Sink out.old out.new }
+    ensures writing { WritesOn (O.writing out.old) (O.writing out.new) result }
 {
     match write_all(out, text) {
         Ok(()) => Ok(()),

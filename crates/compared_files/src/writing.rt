@@ -140,6 +140,8 @@ impl<S: Source> Sink for Comparing<S> {
 
     ghost faults = { λ x. x.failed };
 
+    ghost writing = { λ x. None };
+
     fn faults(&self) -> u64 {
         self.failed
     }

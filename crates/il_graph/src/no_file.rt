@@ -67,6 +67,8 @@ impl<T> Sink for EmptyFile<T> {
 
     ghost faults = { λ file. 0 };
 
+    ghost writing = { λ file. None };
+
     fn faults(&self) -> u64 {
         0
     }

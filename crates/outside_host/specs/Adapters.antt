@@ -4,6 +4,7 @@ use Rattle.std.specs.declared.alloc.Global.{Global}
 use Rattle.std.specs.declared.io.buffered.BufReader.{BufReader}
 use Rattle.std.specs.declared.io.buffered.BufWriter.{BufWriter}
 use Rattle.outside_io.specs.Files.{Outside}
+use Rattle.outside_io.specs.declared.writing.Writing.{Writing}
 use Rattle.outside_host.specs.declared.host_file.HostFile.{HostFile}
 use Rattle.outside_host.specs.declared.host_media.HostMedia.{HostMedia}
 use Rattle.outside_host.specs.declared.host_sink.HostSink.{HostSink}
@@ -29,6 +30,14 @@ unnamed = []
 -- the offset from which on a source gives nothing, which no adapter tells
 abbrev pub endless : Option ℕ
 endless = None
+
+-- how the writes to a file went, which no file tells
+abbrev pub unwatched : Option Writing
+unwatched = None
+
+-- how the prints went
+abbrev pub prints_of : {W : Type 0} → HostSink W → Writing
+prints_of s = s.printing
 
 -- no call on a sink failed
 abbrev pub HasNoFault : {W : Type 0} → HostSink W → Type 0

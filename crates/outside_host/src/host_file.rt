@@ -3,8 +3,9 @@
 ghost use Rattle.std.specs.Io.Buffered.{writer_contents, writer_buffer};
 ghost use Rattle.std.specs.Io.KnownBytes.{Keeps, WriteAppends, append_known};
 ghost use Rattle.std.specs.Io.{WritesAtMost};
-ghost use Rattle.std.specs.Prelude.{◌≡◌, ◌<◌, [], length, take, IfOk, OnOk, OnErr};
+ghost use Rattle.std.specs.Prelude.{◌≡◌, ◌<◌, [], length, take, IfOk, OnOk, OnErr, option_map};
 ghost use Rattle.outside_io.specs.Causes.{HasCause};
+ghost use Rattle.outside_io.specs.Writings.{after};
 
 use crate::FileId;
 use crate::retry::{TRIES, write_some};
@@ -67,13 +68,15 @@ impl<F: Write + Drop> HostFile<F> {
 }
 
 impl<F: Write + Drop> Sink for HostFile<F> {
-    ghost use Rattle.outside_host.specs.Adapters.{file_writer, unnamed, untold};
+    ghost use Rattle.outside_host.specs.Adapters.{file_writer, unnamed, untold, unwatched};
 
     ghost told = { λ s. untold };
 
     ghost name = { λ s. unnamed };
 
     ghost faults = { λ s. s.faults };
+
+    ghost writing = { λ s. unwatched };
 
     fn faults(&self) -> u64 {
         self.faults
@@ -87,6 +90,7 @@ impl<F: Write + Drop> Sink for HostFile<F> {
         ensures kept { OnErr result (untold ≡ untold) }
         ensures name { unnamed ≡ unnamed }
         ensures cause { HasCause self.old.faults self.new.faults result }
+        ensures writing { unwatched ≡ option_map (after result) unwatched }
         ensures written { WriteAppends (writer_contents F.contents (file_writer self.old)) (writer_contents F.contents (file_writer self.new)) result piece.now }
     {
         match write_some(&mut self.file, piece) {

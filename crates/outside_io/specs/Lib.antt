@@ -11,3 +11,4 @@ pub mod Moves
 pub mod Named
 pub mod Stops
 pub mod Whole
+pub mod Writings

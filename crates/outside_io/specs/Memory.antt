@@ -6,6 +6,7 @@ use Rattle.outside_io.specs.declared.calls.Calls.{Calls}
 use Rattle.outside_io.specs.declared.memory_source.MemorySource.{MemorySource}
 use Rattle.outside_io.specs.declared.memory_sink.MemorySink.{MemorySink}
 use Rattle.outside_io.specs.declared.source.Failed.{Failed}
+use Rattle.outside_io.specs.declared.writing.Writing.{Writing}
 
 abbrev pub source_bytes : MemorySource → List ℕ
 source_bytes s = s.bytes.items
@@ -74,6 +75,10 @@ sink_faults s = s.faults
 
 abbrev pub sink_room : MemorySink → ℕ
 sink_room s = s.room
+
+-- how its writes went
+abbrev pub sink_writing : MemorySink → Writing
+sink_writing s = s.writing
 
 -- the writes so far, and those that fail
 abbrev pub sink_writes : MemorySink → Calls

@@ -5,7 +5,7 @@ use Rattle.outside_io.specs.Causes.{sum_of_counts}
 use Rattle.outside_io.specs.Entries.{content}
 use Rattle.outside_io.specs.Fails.{end_of, ends_of, fails_of, refuses, next_fails, seen_more, due_of}
 use Rattle.outside_io.specs.Files.{Outside}
-use Rattle.outside_io.specs.Memory.{source_bytes, source_name, source_offset, source_ends, source_asked, source_faults, source_reads, source_seeks, sink_bytes, sink_name, sink_faults, sink_room, sink_writes}
+use Rattle.outside_io.specs.Memory.{source_bytes, source_name, source_offset, source_ends, source_asked, source_faults, source_reads, source_seeks, sink_bytes, sink_name, sink_faults, sink_room, sink_writes, sink_writing}
 use Rattle.outside_io.specs.Named.{names}
 use Rattle.outside_io.specs.declared.fails.FailKind.TheVariants.{OpenSource, Read, Seek, OpenSink, AbsentSink, Write, Close}
 use Rattle.outside_io.specs.declared.media.Refused.{Refused}
@@ -15,6 +15,7 @@ use Rattle.outside_io.specs.declared.memory_sink.MemorySink.{MemorySink}
 use Rattle.outside_io.specs.declared.memory_source.MemorySource.{MemorySource}
 use Rattle.outside_io.specs.declared.plans.Planned.{Planned}
 use Rattle.outside_io.specs.declared.source.Failed.{Failed as Fault}
+use Rattle.outside_io.specs.declared.writing.Writing.TheVariants.{Going}
 
 abbrev pub memory_file : MemoryMedia → List ℕ → Option (List ℕ)
 memory_file m = content m.entries
@@ -63,6 +64,7 @@ pub record IsNewSink (name : List ℕ) (room : ℕ) (plans : List Planned) (snk 
   pub named : sink_name snk ≡ name
   pub has_room : sink_room snk ≡ room
   pub faults : sink_faults snk ≡ 0
+  pub writing : sink_writing snk ≡ Going
   pub writes : (sink_writes snk).made ≡ 0
   pub failing_writes : (sink_writes snk).due.items ≡ due_of Write name plans
 

@@ -14,6 +14,7 @@ mod plans;
 mod sink;
 mod source;
 mod whole;
+mod writing;
 
 pub use fails::{Fail, FailKind, FileName};
 pub use media::{Media, Refused};
@@ -24,6 +25,7 @@ pub use moving::{PumpFault, ReadStop, pump, read_exact, write_all};
 pub use sink::Sink;
 pub use source::{Failed, Source};
 pub use whole::{Unread, read_whole, write_whole};
+pub use writing::Writing;
 
 /// Want of memory.
 pub type OutOfMemory = std::alloc::AllocError;

@@ -2,15 +2,17 @@
 
 ghost use Rattle.std.specs.Io.{WritesAtMost};
 ghost use Rattle.std.specs.Io.KnownBytes.{append_known};
-ghost use Rattle.std.specs.Prelude.{◌≡◌, ◌≤◌, ◌<◌, length, take, string_bytes, OnErr, [], vec_len, vec_capacity, Some, IfOk};
+ghost use Rattle.std.specs.Prelude.{◌≡◌, ◌≤◌, ◌<◌, length, take, string_bytes, OnErr, [], vec_len, vec_capacity, Some, IfOk, option_map};
 ghost use Rattle.outside_io.specs.Causes.{HasCause};
+ghost use Rattle.outside_io.specs.Writings.{after};
+ghost use Rattle.outside_io.specs.declared.writing.Writing.TheVariants.{Going};
 
 use crate::calls::Calls;
 use crate::entries::Entry;
 use crate::fails::FailKind;
 use crate::named::{self, Named};
 use crate::plans::Planned;
-use crate::{Failed, OutOfMemory, Sink};
+use crate::{Failed, OutOfMemory, Sink, Writing};
 use std::alloc::Global;
 
 /// A sink into memory. Its room, the place of its file and that of its failures are reserved, so writing and closing take no memory.
@@ -24,13 +26,14 @@ pub struct MemorySink {
     room: usize,
     pub(crate) writes: Calls,
     pub(crate) faults: u64,
+    writing: Writing,
     ghost reserved: { room ≤ vec_capacity bytes },
     ghost within: { vec_len bytes ≤ room },
     ghost named: { string_bytes same_name ≡ string_bytes name },
 }
 
 impl MemorySink {
-    ghost use Rattle.outside_io.specs.Memory.{sink_bytes, sink_room, sink_faults, sink_writes};
+    ghost use Rattle.outside_io.specs.Memory.{sink_bytes, sink_room, sink_faults, sink_writes, sink_writing};
     ghost use Rattle.outside_io.specs.MemoryFiles.{IsNewSink};
 
     /// An empty sink that takes this many bytes, and fails only where none of its room is left.
@@ -38,6 +41,7 @@ impl MemorySink {
         ensures bytes { IfOk result (λ sink. sink_bytes sink ≡ []) }
         ensures room { IfOk result (λ sink. sink_room sink ≡ room) }
         ensures faults { IfOk result (λ sink. sink_faults sink ≡ 0) }
+        ensures writing { IfOk result (λ sink. sink_writing sink ≡ Going) }
         ensures no_write_fails { IfOk result (λ sink. (sink_writes sink).due.items ≡ []) }
     {
         MemorySink::planned(alloc, "", room, &[])
@@ -73,18 +77,21 @@ impl MemorySink {
             room,
             writes: Calls::new(Planned::due(alloc, plans, FailKind::Write, name)?),
             faults: 0,
+            writing: Writing::Going,
         })
     }
 }
 
 impl Sink for MemorySink {
-    ghost use Rattle.outside_io.specs.Memory.{sink_bytes, sink_name, sink_faults, Writes};
+    ghost use Rattle.outside_io.specs.Memory.{sink_bytes, sink_name, sink_faults, sink_writing, Writes};
 
     ghost told = { λ s. Some (sink_bytes s) };
 
     ghost name = { sink_name };
 
     ghost faults = { sink_faults };
+
+    ghost writing = { λ s. Some (sink_writing s) };
 
     fn faults(&self) -> u64 {
         self.faults
@@ -98,17 +105,22 @@ impl Sink for MemorySink {
         ensures kept { OnErr result (Some (sink_bytes self.new) ≡ Some (sink_bytes self.old)) }
         ensures name { sink_name self.new ≡ sink_name self.old }
         ensures cause { HasCause (sink_faults self.old) (sink_faults self.new) result }
+        ensures writing { Some (sink_writing self.new) ≡ option_map (after result) (Some (sink_writing self.old)) }
         ensures exactly { Writes self.old self.new (length piece.now) result }
     {
         let fails = self.writes.call();
         let left = self.room - self.bytes.len();
         if fails || left == 0 {
             self.faults = self.faults.saturating_add(1);
+            self.writing = self.writing.after_failed();
             return Err(Failed);
         }
         let count = piece.len().min(left);
         match self.bytes.extend_from_slice(&piece[..count]) {
-            Ok(()) => Ok(count),
+            Ok(()) => {
+                self.writing = self.writing.after_done();
+                Ok(count)
+            }
             Err(_) => unreachable!(),
         }
     }

@@ -7,6 +7,7 @@ ghost use Rattle.outside_io.specs.Causes.{HasCause, Rose};
 ghost use Rattle.outside_io.specs.Keeping.{KeepsSink, KeepsSource};
 ghost use Rattle.outside_io.specs.Moves.{AppendsFront, WhereTold};
 ghost use Rattle.outside_io.specs.Stops.{IsShortAt, IsShortOf, IsStopAt, IsStopOf, StopsBefore};
+ghost use Rattle.outside_io.specs.Writings.{WritesOn};
 
 use crate::{Failed, Sink, Source};
 
@@ -30,12 +31,13 @@ pub enum PumpFault {
     Short { at: u64, size: u64 },
 }
 
-/// Writes a whole piece.
+/// Writes a whole piece. Nothing is tried behind a write that failed.
 pub fn write_all<K: Sink>(sink: &mut K, piece: &[u8]) -> Result<(), Failed>
     ensures whole { OnOk result (K.told sink.new ≡ append_known (K.told sink.old) piece.now) }
     ensures front { AppendsFront (K.told sink.old) (K.told sink.new) piece.now }
     ensures keeps_sink { KeepsSink K.Sink sink.old sink.new }
     ensures cause { HasCause (K.faults sink.old) (K.faults sink.new) result }
+    ensures writing { WritesOn (K.writing sink.old) (K.writing sink.new) result }
 {
     let mut done = 0;
     while done < piece.len() {

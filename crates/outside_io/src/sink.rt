@@ -1,9 +1,11 @@
 //! The trait of sinks: a write takes a front of a piece, and failed calls are counted.
 
-ghost use Rattle.std.specs.Prelude.{◌≡◌, ℕ, ◌<◌, List, length, take, Option, IfOk, OnErr};
+ghost use Rattle.std.specs.Prelude.{◌≡◌, ℕ, ◌<◌, List, length, take, Option, IfOk, OnErr, option_map};
 ghost use Rattle.std.specs.Io.{WritesAtMost};
 ghost use Rattle.std.specs.Io.KnownBytes.{append_known};
 ghost use Rattle.outside_io.specs.Causes.{HasCause};
+ghost use Rattle.outside_io.specs.Writings.{after};
+ghost use Rattle.outside_io.specs.declared.writing.Writing.{Writing};
 
 use crate::Failed;
 
@@ -18,6 +20,9 @@ pub trait Sink {
     /// How many of its calls failed.
     ghost faults: { Self → ℕ };
 
+    /// How its writes went, where it tells that.
+    ghost writing: { Self → Option Writing };
+
     fn faults(&self) -> u64
         ensures { result ≡ faults self.now };
 
@@ -29,5 +34,6 @@ pub trait Sink {
         ensures taken { IfOk result (λ count. told self.new ≡ append_known (told self.old) (take count piece.now)) }
         ensures kept { OnErr result (told self.new ≡ told self.old) }
         ensures name { name self.new ≡ name self.old }
-        ensures cause { HasCause (faults self.old) (faults self.new) result };
+        ensures cause { HasCause (faults self.old) (faults self.new) result }
+        ensures writing { writing self.new ≡ option_map (after result) (writing self.old) };
 }

@@ -6,6 +6,7 @@ ghost use Rattle.omx_types.specs.declared.fault.Fault.TheVariants.{WriteFault};
 ghost use Rattle.outside_io.specs.Causes.{Rose};
 ghost use Rattle.outside_io.specs.Keeping.{KeepsSink};
 ghost use Rattle.outside_io.specs.Moves.{AppendsFront};
+ghost use Rattle.outside_io.specs.Writings.{WritesOn, WritesUntil};
 ghost use Rattle.script_lang.specs.Scripts.{IsOfCommand};
 ghost use Rattle.script_lang.specs.declared.script.Script.TheVariants.{Trace};
 ghost use Rattle.trace_run.specs.Traced.{GotTrace, IsStopped};
@@ -28,6 +29,7 @@ pub fn trace<O: Sink>(alloc: Global, script: &Script, out: &mut O) -> Result<(),
     ensures stopped { IfErr result (IsStopped script.now (O.told out.old) (O.told out.new) (O.faults out.old) (O.faults out.new)) }
     ensures stays { result ≢ Err WriteFault → O.faults out.new ≡ O.faults out.old }
     ensures keeps_sink { KeepsSink O.Sink out.old out.new }
+    ensures writing { WritesUntil WriteFault (O.writing out.old) (O.writing out.new) result }
 {
     match script {
         Script::Trace { units, lines } => trace_lines(alloc, *units, lines.as_slice(), out),
@@ -49,6 +51,7 @@ fn trace_lines<O: Sink>(
     ensures stopped { IfErr result (IsStopped (Trace units lines.now) (O.told out.old) (O.told out.new) (O.faults out.old) (O.faults out.new)) }
     ensures stays { result ≢ Err WriteFault → O.faults out.new ≡ O.faults out.old }
     ensures keeps_sink { KeepsSink O.Sink out.old out.new }
+    ensures writing { WritesUntil WriteFault (O.writing out.old) (O.writing out.new) result }
 {
     let Ok(mut desk) = Desk::new(alloc, units) else {
         return Err(Fault::OutOfMemory);
@@ -70,6 +73,7 @@ fn write<O: Sink>(out: &mut O, text: &[u8]) -> Result<(), Fault>
     ensures fault { IfErr result (λ fault. (fault ≡ WriteFault) × Rose (O.faults out.old) (O.faults out.new)) }
     ensures stays { OnOk result (O.faults out.new ≡ O.faults out.old) }
     ensures keeps_sink { KeepsSink O.Sink out.old out.new }
+    ensures writing { WritesOn (O.writing out.old) (O.writing out.new) result }
 {
     match write_all(out, text) {
         Ok(()) => Ok(()),
@@ -92,6 +96,7 @@ fn write_lines<O: Sink>(
     ensures stood { HasDeskMoment (on_desk desk.new) }
     ensures stays { result ≢ Err WriteFault → O.faults out.new ≡ O.faults out.old }
     ensures keeps_sink { KeepsSink O.Sink out.old out.new }
+    ensures writing { WritesUntil WriteFault (O.writing out.old) (O.writing out.new) result }
 {
     let mut text = Vec::new(alloc);
     for (place, line) in lines.iter().enumerate() {

@@ -14,6 +14,7 @@ loop-line-preserved g c = record {
   later = omega (arith, c.loop-line.invariant.later, c.run_line.ensures.keeps_sink.later);
   stays = c.in_ok-number.ensures.stays ∙ c.loop-line.invariant.stays;
   name = c.run_line.ensures.keeps_sink.name ∙ c.loop-line.invariant.name;
+  writing = λ is. c.in_ok-number.ensures.writing (c.loop-line.invariant.writing is);
 }
 
 pub returns-in_err-number-clause-failed : goal.returns-in_err-number-clause-failed

@@ -1,5 +1,6 @@
-use Rattle.std.proofs.Common.{◌≡◌, ◌≤◌, ◌+◌, length}
+use Rattle.std.proofs.Common.{◌≡◌, ◌≤◌, ◌+◌, length, Some}
 use Rattle.line_text.specs.Lines.{lines_of}
+use Rattle.outside_io.specs.declared.writing.Writing.TheVariants.{Going}
 use Rattle.clock_core.specs.Clock.{opening}
 use Rattle.clock_core.specs.Printed.{calls_in, printed}
 use Rattle.clock_core.proofs.Sent.{Sent}
@@ -12,6 +13,7 @@ invariant-loop-line g l = record {
   later : g.O.Sink.faults l.initial.out ≤ g.O.Sink.faults l.out;
   stays : g.O.Sink.faults l.out ≡ g.O.Sink.faults l.initial.out;
   name : g.O.Sink.name l.out ≡ g.O.Sink.name l.initial.out;
+  writing : g.O.Sink.writing l.initial.out ≡ Some Going → g.O.Sink.writing l.out ≡ Some Going;
 }
 
 abbrev pub decreases-loop-line : goal.decreases-loop-line

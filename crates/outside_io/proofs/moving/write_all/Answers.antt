@@ -8,4 +8,5 @@ loop-done-preserved g c = record {
   told = append_known-goes_on _ _ _ c.args.piece.now c.loop-done.done c.in_ok-count.count c.loop-done.invariant.told c.in_ok-count.ensures.taken;
   name = search rules;
   faults = search rules;
+  writing = search rules;
 }

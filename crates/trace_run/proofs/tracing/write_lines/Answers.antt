@@ -62,6 +62,7 @@ loop-place-preserved g c =
       later = omega (arith, c.loop-place.invariant.later, c.in_ok-write.ensures.keeps_sink.later);
       stays = c.in_ok-write.ensures.stays ∙ c.loop-place.invariant.stays;
       name = c.in_ok-write.ensures.keeps_sink.name ∙ c.loop-place.invariant.name;
+      writing = λ is. c.in_ok-write.ensures.writing (c.loop-place.invariant.writing is);
     }
 
 pub returns-clause-whole : goal.returns-clause-whole

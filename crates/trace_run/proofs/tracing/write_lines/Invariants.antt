@@ -1,4 +1,5 @@
-use Rattle.std.proofs.Common.{◌≡◌, ◌≤◌, take}
+use Rattle.std.proofs.Common.{◌≡◌, ◌≤◌, take, Some}
+use Rattle.outside_io.specs.declared.writing.Writing.TheVariants.{Going}
 use Rattle.trace_run.specs.Desks.{on_desk}
 use Rattle.trace_run.specs.Works.{HasDeskMoment}
 use Rattle.trace_run.proofs.Written.{Carries}
@@ -14,4 +15,5 @@ invariant-loop-place g l =
       later : g.O.Sink.faults l.initial.out ≤ g.O.Sink.faults l.out;
       stays : g.O.Sink.faults l.out ≡ g.O.Sink.faults l.initial.out;
       name : g.O.Sink.name l.out ≡ g.O.Sink.name l.initial.out;
+      writing : g.O.Sink.writing l.initial.out ≡ Some Going → g.O.Sink.writing l.out ≡ Some Going;
     }
