@@ -4,17 +4,18 @@ use Rattle.std.proofs.lemmas.Bool.{and_parts}
 use Rattle.il_machine.specs.declared.port.PortKey.{PortKey}
 use Rattle.il_machine.specs.declared.header.Spot.{Spot}
 use Rattle.il_machine.specs.declared.header.Spot.TheVariants.{TodoBack}
-use Rattle.il_machine.specs.World.{HeaderRecord, World}
-use Rattle.il_machine.specs.Lists.{holds_at}
-use Rattle.il_machine.specs.Headers.{Seen, seen, find_header, is_for, in_todo, in_done, unloaded, put, cleared, unchanged, Once}
+use Rattle.il_machine.specs.World.{HeaderRecord, Load, World}
+use Rattle.il_machine.specs.Lists.{holds_at, is_empty}
+use Rattle.il_machine.specs.Headers.{Seen, seen, find_header, is_for, in_todo, unloaded, put, cleared, unchanged, Once}
 use Rattle.il_machine.specs.Buffers.{load_in}
 use Rattle.il_machine.specs.Flow.{front_put, returned, supplied_spot}
-use Rattle.il_machine.specs.Stock.{Stocked, StandsFor, pushed, todo_pulled, todo_front_pulled, done_pulled, done_front_pulled}
+use Rattle.il_machine.specs.Stock.{Stocked, StandsFor, pushed, todo_pulled, todo_front_pulled, done_pulled}
 use Rattle.machine_laws.proofs.Replacing.{replaced_put}
 use Rattle.machine_laws.proofs.Listed.{AreIn}
 use Rattle.stock_laws.proofs.Composed.{pull_put_cleared, send_put_back}
 use Rattle.header_core.specs.BufferHeader.{BufferHeader}
 use Rattle.port_stock.specs.Conditions.{IsFrom}
+use Rattle.port_stock.specs.Passing.{AreDoneFor, IsPassed}
 use Rattle.graph_core.specs.Moving.{AreShared, Moves}
 use Rattle.port_rules.proofs.Noticed.{IsNoted, another}
 use Rattle.flush_mark.proofs.ResetSteps.{front_is, no_front, made_out, pulled_is, sent_is}
@@ -51,52 +52,41 @@ stays change s t q same = subst (λ (x : Stocked). Moves change s x) (sym q) (re
   next = refl;
 })
 
-pub none_sent : (s : Stocked) (key : PortKey) → s.headers.done key ≡ [] → done_pulled key s ≡ s
-none_sent s key e = ap (λ (ns : List ℕ). done_front_pulled key ns s) e
-
-pub none_on : (s t : Stocked) (key peer : PortKey) → t ≡ done_pulled key s → None ≡ slice_get (s.headers.done key) 0 → Moves (λ w. front_put peer TodoBack unchanged ((seen w.headers).done key) w) s t
-none_on s t key peer q front =
-    let e : s.headers.done key ≡ [] = no_front (s.headers.done key) front in
-    stays (λ w. front_put peer TodoBack unchanged ((seen w.headers).done key) w) s t (q ∙ none_sent s key e)
-    (λ w S. ap (λ (ns : List ℕ). front_put peer TodoBack unchanged ns w) (ap (λ (x : Seen). x.done key) S.looks ∙ e))
-
 -- ---- the front of done goes to the other port as it is
 
-module _ (s : Stocked) (key peer : PortKey) (B : AreShared key peer s) (header : BufferHeader) (front : Some header.held.number ≡ slice_get (s.headers.done key) 0) (was : IsFrom (in_done key) header s) where
-  abbrev n : ℕ
-  n = header.held.number
+pub shared_done : (s : Stocked) (key peer : PortKey) → AreShared key peer s → AreDoneFor key peer s
+shared_done s key peer B n h e i = B n h e (and_parts _ _ i).1
 
-  abbrev rest : List ℕ
-  rest = drop 1 (s.headers.done key)
-
-  done_is : s.headers.done key ≡ n ∷ rest
-  done_is = front_is (s.headers.done key) n front
+module _ (s : Stocked) (key peer : PortKey) (n : ℕ) (rest : List ℕ) (load : Load) (done_is : s.headers.done key ≡ n ∷ rest) (carried : s.loads n ≡ Some load) where
+  abbrev after_sent : Stocked
+  after_sent = pushed peer TodoBack n load (done_pulled key s)
 
   world_done : (w : World) → StandsFor s w.headers → (seen w.headers).done key ≡ n ∷ rest
   world_done w S = ap (λ (x : Seen). x.done key) S.looks ∙ done_is
 
-  pub sent_for_peer : holds_at ((done_pulled key s).headers.header n) (is_for peer) ≡ true
-  sent_for_peer = rw (sent_is s key n rest done_is) (made_out n peer (s.headers.header n) (in_done key) s.headers.header (λ h x y. B n h x (and_parts _ _ y).1) was.0)
-
-  abbrev after_sent : Stocked
-  after_sent = pushed peer TodoBack n (load_in header.held) (done_pulled key s)
-
-  stands_sent : (w : World) → StandsFor s w.headers → StandsFor after_sent (put peer TodoBack n unchanged w.headers)
-  stands_sent w S = send_put_back s w.headers key peer TodoBack n rest (load_in header.held) S done_is was.1
-
   sent_as : (F : List ℕ → World → World) → ((w : World) → F (n ∷ rest) w ≡ record w { headers = put peer TodoBack n unchanged w.headers }) → (t : Stocked) → t ≡ after_sent → Moves (λ w. F ((seen w.headers).done key) w) s t
   sent_as F f t q = subst (λ (x : Stocked). Moves (λ w. F ((seen w.headers).done key) w) s x) (sym q) (record {
-    stands = λ w S. subst (λ (v : World). StandsFor after_sent v.headers) (sym (ap (λ (ns : List ℕ). F ns w) (world_done w S) ∙ f w)) (stands_sent w S);
+    stands = λ w S. subst (λ (v : World). StandsFor after_sent v.headers) (sym (ap (λ (ns : List ℕ). F ns w) (world_done w S) ∙ f w)) (send_put_back s w.headers key peer TodoBack n rest load S done_is carried);
     key = ap (λ (x : Stocked). x.key) (sent_is s key n rest done_is);
     ports = ap (λ (x : Stocked). x.ports) (sent_is s key n rest done_is);
     next = ap (λ (x : Stocked). x.next) (sent_is s key n rest done_is);
   })
 
-  pub passed_on : (t : Stocked) → t ≡ after_sent → Moves (λ w. front_put peer TodoBack unchanged ((seen w.headers).done key) w) s t
-  passed_on t q = sent_as (front_put peer TodoBack unchanged) (λ w. refl) t q
+pub passed_on : (s t : Stocked) (key peer : PortKey) (ns : List ℕ) → s.headers.done key ≡ ns → IsPassed key peer TodoBack ns s t → Moves (λ w. front_put peer TodoBack unchanged ((seen w.headers).done key) w) s t
+passed_on s t key peer [] e P =
+    stays (λ w. front_put peer TodoBack unchanged ((seen w.headers).done key) w) s t P (λ w S. ap (λ (ns : List ℕ). front_put peer TodoBack unchanged ns w) (ap (λ (x : Seen). x.done key) S.looks ∙ e))
+passed_on s t key peer (n ∷ rest) e P = sent_as s key peer n rest P.0 e P.1 (front_put peer TodoBack unchanged) (λ w. refl) t P.2
 
-  pub sent_back : (input : Bool) (t : Stocked) → t ≡ after_sent → Moves (λ w. returned peer input ((seen w.headers).done key) ((seen w.headers).todo key) w) s t
-  sent_back input t q = sent_as (λ ns w. returned peer input ns ((seen w.headers).todo key) w) (λ w. refl) t q
+-- the front of done goes back, where there is one
+pub sent_back : (s t : Stocked) (key supplier : PortKey) (input : Bool) (ns : List ℕ) → s.headers.done key ≡ ns → true ≡ not (is_empty ns) → IsPassed key supplier TodoBack ns s t
+    → Moves (λ w. returned supplier input ((seen w.headers).done key) ((seen w.headers).todo key) w) s t
+sent_back s t key supplier input [] e some P = absurd cc
+sent_back s t key supplier input (n ∷ rest) e some P = sent_as s key supplier n rest P.0 e P.1 (λ ns w. returned supplier input ns ((seen w.headers).todo key) w) (λ w. refl) t P.2
+
+-- where there is none nothing changed
+pub none_sent : (s t : Stocked) (key peer : PortKey) (ns : List ℕ) → s.headers.done key ≡ ns → false ≡ not (is_empty ns) → IsPassed key peer TodoBack ns s t → (s.headers.done key ≡ []) × (t ≡ s)
+none_sent s t key peer [] e none P = (e, P)
+none_sent s t key peer (n ∷ rest) e none P = absurd cc
 
 -- ---- where done is empty the front of todo goes to the supplier, cleared
 

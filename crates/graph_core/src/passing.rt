@@ -114,10 +114,7 @@ fn pass_on(stock: &mut Stock, key: PortKey, peer: PortKey)
     requires shared { AreShared key peer (stocked stock.old) }
     ensures { Moves (λ w. front_put peer TodoBack unchanged ((seen w.headers).done key) w) (stocked stock.old) (stocked stock.new) }
 {
-    let Some(header) = stock.pull_done(key) else {
-        return;
-    };
-    stock.push_header(peer, header, Spot::TodoBack);
+    stock.pass_done(key, peer, Spot::TodoBack);
 }
 
 /// The front of `done` goes to the back of the supplier's `todo`. Where `done` is empty the front of `todo` goes back, cleared.
@@ -127,8 +124,7 @@ fn give_back(stock: &mut Stock, port: Port, supplier: PortKey)
     requires shared { AreShared port.key supplier (stocked stock.old) }
     ensures { Moves (λ w. returned supplier (is_input_port port) ((seen w.headers).done port.key) ((seen w.headers).todo port.key) w) (stocked stock.old) (stocked stock.new) }
 {
-    if let Some(header) = stock.pull_done(port.key) {
-        stock.push_header(supplier, header, Spot::TodoBack);
+    if stock.pass_done(port.key, supplier, Spot::TodoBack) {
         return;
     }
     let Some(mut header) = stock.pull_todo(port.key) else {

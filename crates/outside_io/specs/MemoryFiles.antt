@@ -1,12 +1,12 @@
 -- What a media in memory tells, and what each of its calls does.
-use Rattle.std.specs.Prelude.{◌≡◌, ℕ, List, [], ◌∷◌, true, false, Option, Some, None, Vec, String, string_bytes, bytes_eq, if◌then◌else◌, Result, Ok, Err}
+use Rattle.std.specs.Prelude.{◌≡◌, ◌≢◌, ◌⊎◌, ℕ, List, [], ◌∷◌, true, false, Option, Some, None, Vec, String, string_bytes, bytes_eq, if◌then◌else◌, Result, Ok, Err}
 use Rattle.std.specs.declared.alloc.Global.{Global}
 use Rattle.outside_io.specs.Causes.{sum_of_counts}
 use Rattle.outside_io.specs.Entries.{content}
 use Rattle.outside_io.specs.Fails.{end_of, ends_of, fails_of, refuses, next_fails, seen_more, due_of}
 use Rattle.outside_io.specs.Files.{Outside}
 use Rattle.outside_io.specs.Memory.{source_bytes, source_name, source_offset, source_ends, source_asked, source_faults, source_reads, source_seeks, sink_bytes, sink_name, sink_faults, sink_room, sink_writes, sink_writing}
-use Rattle.outside_io.specs.Named.{names}
+use Rattle.outside_io.specs.Named.{kept_names, names}
 use Rattle.outside_io.specs.declared.fails.FailKind.TheVariants.{OpenSource, Read, Seek, OpenSink, AbsentSink, Write, Close}
 use Rattle.outside_io.specs.declared.media.Refused.{Refused}
 use Rattle.outside_io.specs.declared.media.Refused.TheVariants.{Absent, Failed, OutOfMemory}
@@ -35,7 +35,7 @@ memory_outside m = record {
   read_faults = m.read_faults;
   write_faults = m.write_faults;
   absences = m.absences;
-  openings = Some (names m.openings);
+  openings = Some (kept_names m.openings);
   failed_writes = Some (names m.failed_writes);
 }
 
@@ -68,7 +68,8 @@ pub record IsNewSink (name : List ℕ) (room : ℕ) (plans : List Planned) (snk 
   pub writes : (sink_writes snk).made ≡ 0
   pub failing_writes : (sink_writes snk).due.items ≡ due_of Write name plans
 
--- the opening of a source fails where that call is listed, and is absent where else there is no such file
+-- The opening of a source fails where that call is listed, and is absent where else there is no such file. Where it wants memory, it
+-- isn't counted, so that the failure listed for it comes with the next one; or it is, and isn't listed.
 abbrev pub SourceAnswers : List ℕ → MemoryMedia → MemoryMedia → Result MemorySource Refused → Type 0
 SourceAnswers name old new (Ok src) =
     (next_fails OpenSource name (memory_plans old) ≡ false)
@@ -81,14 +82,17 @@ SourceAnswers name old new (Err Absent) =
     (next_fails OpenSource name (memory_plans old) ≡ false) × (memory_file old name ≡ None)
     × HasCounts new (memory_outside old).read_faults (memory_outside old).write_faults (sum_of_counts (memory_outside old).absences 1)
 SourceAnswers name old new (Err OutOfMemory) =
-    HasCounts new (memory_outside old).read_faults (memory_outside old).write_faults (memory_outside old).absences
+    ((memory_plans new ≡ memory_plans old)
+    ⊎ ((next_fails OpenSource name (memory_plans old) ≡ false) × (memory_plans new ≡ seen_more OpenSource name 1 (memory_plans old))))
+    × HasCounts new (memory_outside old).read_faults (memory_outside old).write_faults (memory_outside old).absences
 
 pub record OpensSource (name : List ℕ) (old new : MemoryMedia) (result : Result MemorySource Refused) : Type 0 where
   pub answers : SourceAnswers name old new result
-  pub seen : memory_plans new ≡ seen_more OpenSource name 1 (memory_plans old)
+  pub seen : result ≢ Err OutOfMemory → memory_plans new ≡ seen_more OpenSource name 1 (memory_plans old)
   pub room : memory_room new ≡ memory_room old
 
--- the opening of a sink is absent where that call is listed as such, and fails where else it is listed
+-- The opening of a sink is absent where that call is listed as such, and fails where else it is listed. Where it wants memory, the same
+-- holds as of a source.
 abbrev pub SinkAnswers : List ℕ → MemoryMedia → MemoryMedia → Result MemorySink Refused → Type 0
 SinkAnswers name old new (Ok snk) =
     (next_fails AbsentSink name (memory_plans old) ≡ false) × (next_fails OpenSink name (seen_more AbsentSink name 1 (memory_plans old)) ≡ false)
@@ -101,11 +105,15 @@ SinkAnswers name old new (Err Failed) =
     (next_fails AbsentSink name (memory_plans old) ≡ false) × (next_fails OpenSink name (seen_more AbsentSink name 1 (memory_plans old)) ≡ true)
     × HasCounts new (memory_outside old).read_faults (sum_of_counts (memory_outside old).write_faults 1) (memory_outside old).absences
 SinkAnswers name old new (Err OutOfMemory) =
-    HasCounts new (memory_outside old).read_faults (memory_outside old).write_faults (memory_outside old).absences
+    ((memory_plans new ≡ memory_plans old)
+    ⊎ ((next_fails AbsentSink name (memory_plans old) ≡ false)
+    × (next_fails OpenSink name (seen_more AbsentSink name 1 (memory_plans old)) ≡ false)
+    × (memory_plans new ≡ seen_more OpenSink name 1 (seen_more AbsentSink name 1 (memory_plans old)))))
+    × HasCounts new (memory_outside old).read_faults (memory_outside old).write_faults (memory_outside old).absences
 
 pub record OpensSink (name : List ℕ) (old new : MemoryMedia) (result : Result MemorySink Refused) : Type 0 where
   pub answers : SinkAnswers name old new result
-  pub seen : memory_plans new ≡ seen_more OpenSink name 1 (seen_more AbsentSink name 1 (memory_plans old))
+  pub seen : result ≢ Err OutOfMemory → memory_plans new ≡ seen_more OpenSink name 1 (seen_more AbsentSink name 1 (memory_plans old))
   pub room : memory_room new ≡ memory_room old
 
 -- the closing of a source adds its faults, and its reads and seeks to those of its name

@@ -7,7 +7,7 @@ ghost use Rattle.outside_io.specs.Moves.{WhereTold};
 
 use crate::entries::{Entry, find};
 use crate::fails::{Fail, FailKind};
-use crate::named::{self, Named};
+use crate::named::{Named, keep, of_name, put};
 use crate::plans::Planned;
 use crate::{Failed, Media, MemorySink, MemorySource, OutOfMemory, Refused};
 use std::alloc::Global;
@@ -24,7 +24,7 @@ pub struct MemoryMedia {
     read_faults: u64,
     write_faults: u64,
     absences: u64,
-    openings: Option<Box<Named>>,
+    openings: Vec<String>,
     failed_writes: Option<Box<Named>>,
 }
 
@@ -64,7 +64,7 @@ impl MemoryMedia {
             read_faults: 0,
             write_faults: 0,
             absences: 0,
-            openings: None,
+            openings: Vec::new(alloc),
             failed_writes: None,
         })
     }
@@ -119,11 +119,10 @@ impl Media for MemoryMedia {
         ensures write_faults { (memory_outside self.new).write_faults ≡ (memory_outside self.old).write_faults }
         ensures exactly { OpensSource name.now self.old self.new result }
     {
-        let fails = Planned::call(&mut self.plans, FailKind::OpenSource, name);
-        let Ok(()) = named::add(alloc, &mut self.openings, name) else {
+        let Ok(()) = keep(alloc, &mut self.openings, name) else {
             return Err(Refused::OutOfMemory);
         };
-        if fails {
+        if Planned::call(&mut self.plans, FailKind::OpenSource, name) {
             self.read_faults = self.read_faults.saturating_add(1);
             return Err(Refused::Failed);
         }
@@ -155,23 +154,24 @@ impl Media for MemoryMedia {
         ensures read_faults { (memory_outside self.new).read_faults ≡ (memory_outside self.old).read_faults }
         ensures exactly { OpensSink name.now self.old self.new result }
     {
-        let absent = Planned::call(&mut self.plans, FailKind::AbsentSink, name);
-        let fails = Planned::call(&mut self.plans, FailKind::OpenSink, name);
-        let Ok(()) = named::add(alloc, &mut self.openings, name) else {
+        let Ok(failures) = of_name(alloc, name) else {
             return Err(Refused::OutOfMemory);
         };
+        let Ok(()) = keep(alloc, &mut self.openings, name) else {
+            return Err(Refused::OutOfMemory);
+        };
+        let absent = Planned::call(&mut self.plans, FailKind::AbsentSink, name);
+        let fails = Planned::call(&mut self.plans, FailKind::OpenSink, name);
         if absent {
             self.absences = self.absences.saturating_add(1);
             return Err(Refused::Absent);
         }
         if fails {
-            let Ok(()) = named::add(alloc, &mut self.failed_writes, name) else {
-                return Err(Refused::OutOfMemory);
-            };
+            put(&mut self.failed_writes, failures, 1);
             self.write_faults = self.write_faults.saturating_add(1);
             return Err(Refused::Failed);
         }
-        match MemorySink::planned(alloc, name, self.room, &self.plans) {
+        match MemorySink::planned(alloc, name, self.room, &self.plans, failures) {
             Ok(sink) => Ok(sink),
             Err(_) => Err(Refused::OutOfMemory),
         }
@@ -223,12 +223,7 @@ impl Media for MemoryMedia {
         }
         entry.older = self.entries.take();
         self.entries = Some(entry);
-        named::put(
-            &mut self.failed_writes,
-            snk.spare_named,
-            snk.same_name,
-            failed,
-        );
+        put(&mut self.failed_writes, snk.failures, failed);
         if fails { Err(Failed) } else { Ok(()) }
     }
 }

@@ -4,13 +4,14 @@ ghost use Rattle.std.specs.Io.{WritesAtMost};
 ghost use Rattle.std.specs.Io.KnownBytes.{append_known};
 ghost use Rattle.std.specs.Prelude.{◌≡◌, ◌≤◌, ◌<◌, length, take, string_bytes, OnErr, [], vec_len, vec_capacity, Some, IfOk, option_map};
 ghost use Rattle.outside_io.specs.Causes.{HasCause};
+ghost use Rattle.outside_io.specs.Named.{name_in};
 ghost use Rattle.outside_io.specs.Writings.{after};
 ghost use Rattle.outside_io.specs.declared.writing.Writing.TheVariants.{Going};
 
 use crate::calls::Calls;
 use crate::entries::Entry;
 use crate::fails::FailKind;
-use crate::named::{self, Named};
+use crate::named::{Named, of_name};
 use crate::plans::Planned;
 use crate::{Failed, OutOfMemory, Sink, Writing};
 use std::alloc::Global;
@@ -21,15 +22,14 @@ pub struct MemorySink {
     pub(crate) name: String,
     pub(crate) bytes: Vec<u8>,
     pub(crate) spare: Box<Entry>,
-    pub(crate) same_name: String,
-    pub(crate) spare_named: Box<Named>,
+    pub(crate) failures: Box<Named>,
     room: usize,
     pub(crate) writes: Calls,
     pub(crate) faults: u64,
     writing: Writing,
     ghost reserved: { room ≤ vec_capacity bytes },
     ghost within: { vec_len bytes ≤ room },
-    ghost named: { string_bytes same_name ≡ string_bytes name },
+    ghost named: { name_in failures ≡ string_bytes name },
 }
 
 impl MemorySink {
@@ -44,7 +44,7 @@ impl MemorySink {
         ensures writing { IfOk result (λ sink. sink_writing sink ≡ Going) }
         ensures no_write_fails { IfOk result (λ sink. (sink_writes sink).due.items ≡ []) }
     {
-        MemorySink::planned(alloc, "", room, &[])
+        MemorySink::planned(alloc, "", room, &[], of_name(alloc, "")?)
     }
 
     /// What it has taken.
@@ -54,13 +54,15 @@ impl MemorySink {
         self.bytes
     }
 
-    /// A sink of that name.
+    /// A sink of that name, with an element for its failures.
     pub(crate) fn planned(
         alloc: Global,
         name: &str,
         room: usize,
         plans: &[Planned],
+        failures: Box<Named>,
     ) -> Result<MemorySink, OutOfMemory>
+        requires { name_in failures ≡ name.now }
         ensures { IfOk result (IsNewSink name.now room plans.now) }
     {
         let entry = Entry {
@@ -72,8 +74,7 @@ impl MemorySink {
             name: String::from_str(alloc, name)?,
             bytes: Vec::with_capacity(alloc, room)?,
             spare: Box::new(alloc, entry)?,
-            same_name: String::from_str(alloc, name)?,
-            spare_named: named::spare(alloc)?,
+            failures,
             room,
             writes: Calls::new(Planned::due(alloc, plans, FailKind::Write, name)?),
             faults: 0,

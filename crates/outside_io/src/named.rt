@@ -1,7 +1,7 @@
-//! A list of the names of calls, newest first, which grows by an element that was there before.
+//! The names of calls, in their order: each that was asked for, and those that failed.
 
-ghost use Rattle.std.specs.Prelude.{◌≡◌, ◌++◌, replicate, string_bytes, OnOk, OnErr};
-ghost use Rattle.outside_io.specs.Named.{names};
+ghost use Rattle.std.specs.Prelude.{◌≡◌, ◌++◌, replicate, OnOk, OnErr, IfOk};
+ghost use Rattle.outside_io.specs.Named.{kept_names, name_in, names};
 
 use crate::OutOfMemory;
 use std::alloc::Global;
@@ -14,34 +14,34 @@ pub struct Named {
     pub older: Option<Box<Named>>,
 }
 
-/// An element that names no call.
-pub fn spare(alloc: Global) -> Result<Box<Named>, OutOfMemory> {
+/// An element for calls of that name.
+pub fn of_name(alloc: Global, name: &str) -> Result<Box<Named>, OutOfMemory>
+    ensures { IfOk result (λ named. name_in named ≡ name.now) }
+{
     let named = Named {
-        name: String::new(alloc),
+        name: String::from_str(alloc, name)?,
         times: 0,
         older: None,
     };
     Ok(Box::new(alloc, named)?)
 }
 
-/// Puts the name of so many calls before the others.
-pub fn put(list: &mut Option<Box<Named>>, spare: Box<Named>, name: String, times: u64)
-    ensures { names list.new ≡ names list.old ++ replicate times (string_bytes name) }
+/// Puts so many calls of the element's name before the others.
+pub fn put(list: &mut Option<Box<Named>>, named: Box<Named>, times: u64)
+    ensures { names list.new ≡ names list.old ++ replicate times (name_in named) }
 {
-    let mut named = spare;
-    named.name = name;
+    let mut named = named;
     named.times = times;
     named.older = list.take();
     *list = Some(named);
 }
 
-/// Puts the name of a call before the others.
-pub fn add(alloc: Global, list: &mut Option<Box<Named>>, name: &str) -> Result<(), OutOfMemory>
-    ensures added { OnOk result (names list.new ≡ names list.old ++ replicate 1 name.now) }
-    ensures kept { OnErr result (names list.new ≡ names list.old) }
+/// Keeps the name of a call behind the others.
+pub fn keep(alloc: Global, kept: &mut Vec<String>, name: &str) -> Result<(), OutOfMemory>
+    ensures added { OnOk result (kept_names kept.new ≡ kept_names kept.old ++ replicate 1 name.now) }
+    ensures kept { OnErr result (kept_names kept.new ≡ kept_names kept.old) }
 {
     let name = String::from_str(alloc, name)?;
-    let spare = spare(alloc)?;
-    put(list, spare, name, 1);
+    kept.push(name)?;
     Ok(())
 }

@@ -25,8 +25,8 @@ use Rattle.port_stock.proofs.Stocking.{kept, reads}
 use Rattle.port_stock.proofs.Lawful.{fresh_number, home_owned, lawful_room}
 use Rattle.port_stock.proofs.Calls.{Becomes}
 use Rattle.port_stock.proofs.Making.{made_outside, new_number, make_becomes}
-use Rattle.port_stock.proofs.Keeping.{add_becomes, begins, is_left, keys_length, none_left, remove_becomes, left_length}
-use Rattle.port_stock.proofs.Reading.{view, told, header_shown, shelf_keys, keys_shown}
+use Rattle.port_stock.proofs.Keeping.{add_becomes, begins, is_left, keys_length, remove_becomes, left_length}
+use Rattle.port_stock.proofs.Reading.{view, told, shelf_keys, keys_shown}
 use Rattle.port_stock.proofs.Telling.{made_tells}
 use Rattle.port_stock.proofs.Knowing.{absent, count_length, counted_at, guests, table_length, zero_port}
 use Rattle.port_stock.proofs.Turning.{Turns, flat_old, length_keys, old, port_there, told_old, turned}

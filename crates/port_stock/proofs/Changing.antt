@@ -68,7 +68,7 @@ unkept_at es n k P A E out h =
     let p = out (record_of A.it) (is_there P (find_header n (headers_of es)) (record_of A.it) A.stands.find h) in
     to_there (λ e. e.kept ≡ None) (slice_get es k) A.it A.there (unkept A.it (Each-at IsKept es k A.it E A.there) p)
 
-spot_waits : (spot : Spot) → true ≡ is_waiting (spot_queue spot)
+pub spot_waits : (spot : Spot) → true ≡ is_waiting (spot_queue spot)
 spot_waits TodoBack = refl
 spot_waits TodoFront = refl
 spot_waits DoneBack = refl

@@ -5,7 +5,7 @@ use Rattle.block_region.specs.Regions.{BlockRegion}
 use Rattle.il_machine.specs.declared.header.HeaderState.{HeaderState}
 use Rattle.il_machine.specs.World.{HeaderRecord}
 use Rattle.il_machine.specs.Buffers.{is_block}
-use Rattle.il_machine.specs.Headers.{Once, count_headers, find_header, has_number, state_of, weight}
+use Rattle.il_machine.specs.Headers.{Once, count_headers, find_header, state_of, weight}
 use Rattle.header_core.specs.Blocks.{IsSameRegion}
 use Rattle.header_core.specs.Keys.{key_number}
 use Rattle.port_stock.specs.declared.entry.Entry.{Entry}

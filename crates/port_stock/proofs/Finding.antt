@@ -1,6 +1,7 @@
 -- The port of a key, as ports change, and counts of it.
 use Rattle.std.proofs.Common.{◌≡◌, ℕ, zero, suc, ◌+◌, ◌-◌, Bool, true, false, ◌||◌, ◌&&◌, List, [], ◌∷◌, ◌++◌, append_assoc, position, set, get_or, slice_get, Option, Some, None, MatchOption, option_map, cond, refl, sym, ◌∙◌, ap, arith, inl, inr, subst}
 use Rattle.il_machine.specs.declared.port.PortKey.{PortKey}
+use Rattle.il_machine.specs.declared.header.Queue.{Queue}
 use Rattle.il_machine.specs.declared.header.Spot.{Spot}
 use Rattle.il_machine.specs.declared.header.Spot.TheVariants.{TodoBack, TodoFront, DoneBack}
 use Rattle.il_machine.specs.declared.header.HeaderState.{HeaderState}
@@ -195,6 +196,13 @@ recounts_two port peer before after ps qs rs B A d R S = record {
   keys = S.keys ∙ R.keys;
   differ = S.differ;
 }
+
+-- counts don't ask in which list a header waits
+pub requeued_after : (before : Option HeaderState) (after : HeaderState) (queue : Queue) (ps qs : List Port) → Recounts before (Some after) ps qs → Recounts before (Some (record after { queue = queue })) ps qs
+requeued_after before after queue ps qs C = record { at = C.at; keys = C.keys; differ = C.differ }
+
+pub requeued_before : (before : HeaderState) (after : Option HeaderState) (queue : Queue) (ps qs : List Port) → Recounts (Some before) after ps qs → Recounts (Some (record before { queue = queue })) after ps qs
+requeued_before before after queue ps qs C = record { at = C.at; keys = C.keys; differ = C.differ }
 
 -- ---- which ports know a header
 

@@ -9,6 +9,7 @@ pub mod Knowing
 pub mod Lawful
 pub mod Looking
 pub mod Making
+mod Passing
 pub mod Places
 pub mod Reading
 pub mod Stocking

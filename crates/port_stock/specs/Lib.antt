@@ -4,3 +4,4 @@ pub mod Entries
 pub mod Rings
 pub mod Blocks
 pub mod Ending
+pub mod Passing

@@ -3,7 +3,7 @@
 ghost use Rattle.std.specs.Prelude.{◌≡◌, ℕ, ◌<◌, ◌+◌, ◌∷◌, ◌++◌, [], length, map, option_map, nat_eq, position, slice_get, slice_set, remove, Some, None, true, IfSome, IsSome, MatchOption, is_none, vec_len, vec_capacity};
 ghost use Rattle.std.specs.List.{list_all};
 ghost use Rattle.il_machine.specs.declared.header.Queue.TheVariants.{Out};
-ghost use Rattle.il_machine.specs.Headers.{Once, changed, find_header, given_to, in_todo, in_done, state_at, state_of, empty_load, without};
+ghost use Rattle.il_machine.specs.Headers.{Once, changed, find_header, given_to, in_todo, in_done, put_at, state_at, state_of, empty_load, without};
 ghost use Rattle.il_machine.specs.Buffers.{load_in};
 ghost use Rattle.il_machine.specs.Due.{marked as marked_record};
 ghost use Rattle.header_core.specs.BufferHeader.{cleared as emptied_header, marked as marked_header};
@@ -145,6 +145,26 @@ pub fn take(entries: &mut Vec<Entry>, number: u64) -> Header
         unreachable!()
     };
     take_header(entries, place)
+}
+
+/// Puts the header of the number, which waits in a list, at the spot of the port with all that it carries, and answers how it was.
+pub fn pass(entries: &mut Vec<Entry>, number: u64, key: PortKey, spot: Spot) -> HeaderState
+    requires waits { MatchOption (find_header number (headers_of entries.old.items)) ⊥ (λ r. is_waiting r.state.queue ≡ true) }
+    requires once { Once (headers_of entries.old.items) }
+    requires kept { Each IsKept entries.old.items }
+    ensures before { option_map state_of (find_header number (headers_of entries.old.items)) ≡ Some result }
+    ensures headers { headers_of entries.new.items ≡ changed number (put_at key spot) (headers_of entries.old.items) }
+    ensures kept { Each IsKept entries.new.items }
+    ensures keys { KeepsKeys entries.old.items entries.new.items }
+    ensures capacity { vec_capacity entries.new ≡ vec_capacity entries.old }
+{
+    let Some(place) = number_place(entries, number) else {
+        unreachable!()
+    };
+    let entry = &mut entries[place];
+    let before = entry.state;
+    entry.state = put_state(key, spot, before);
+    before
 }
 
 /// Adds a header that is in no list, where there is room.

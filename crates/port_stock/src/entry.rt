@@ -1,6 +1,6 @@
 //! A header as the stock keeps it, and what its state says of its port, its home, its owner and its list.
 
-ghost use Rattle.std.specs.Prelude.{◌≡◌, ◌&&◌, not, is_none};
+ghost use Rattle.std.specs.Prelude.{◌≡◌, ◌&&◌, ◌||◌, not, is_none};
 ghost use Rattle.il_machine.specs.Headers.{in_todo, in_done, is_away, is_at_home, is_for, is_home_of, is_home_owner, is_key, is_notice, is_owned_by, same_key, spot_queue, state_at};
 ghost use Rattle.il_machine.specs.Stock.{home_owner};
 ghost use Rattle.port_stock.specs.Kept.{is_waiting};
@@ -70,11 +70,18 @@ fn is_in_notice(owner: Owner) -> bool
     matches!(owner, Owner::Notice(_))
 }
 
+/// Whether the owner of a header of this home is neither its home nor a notice.
+pub fn is_away_with(home: Home, owner: Owner) -> bool
+    ensures { result ≡ not (is_home_owner home owner || is_notice owner) }
+{
+    !(is_owner_home(home, owner) || is_in_notice(owner))
+}
+
 /// Whether the header's owner is neither its home nor a notice.
 pub fn is_away(state: &HeaderState) -> bool
     ensures { result ≡ is_away state.now }
 {
-    !(is_owner_home(state.home, state.owner) || is_in_notice(state.owner))
+    is_away_with(state.home, state.owner)
 }
 
 fn is_home(key: PortKey, home: Home) -> bool
@@ -86,11 +93,18 @@ fn is_home(key: PortKey, home: Home) -> bool
     }
 }
 
+/// Whether the owner is the port, which isn't the home.
+pub fn is_guest_of(key: PortKey, home: Home, owner: Owner) -> bool
+    ensures { result ≡ (is_owned_by key owner && not (is_home_of key home)) }
+{
+    is_of_port(key, owner) && !is_home(key, home)
+}
+
 /// Whether the header is in a list of the port, and the port isn't its home.
 pub fn is_foreign(key: PortKey, state: &HeaderState) -> bool
     ensures { result ≡ (is_owned_by key state.now.owner && not (is_home_of key state.now.home)) }
 {
-    is_of_port(key, state.owner) && !is_home(key, state.home)
+    is_guest_of(key, state.home, state.owner)
 }
 
 fn queue_of(spot: Spot) -> Queue

@@ -1,14 +1,14 @@
 //! One port: the numbers of the headers in its two lists, and how many headers there are.
 
-ghost use Rattle.std.specs.Prelude.{◌≡◌, ◌&&◌, ◌<◌, not, length, IfOk};
-ghost use Rattle.il_machine.specs.Headers.{is_for, weight};
+ghost use Rattle.std.specs.Prelude.{◌≡◌, ◌&&◌, ◌<◌, true, not, length, Some, IfOk};
+ghost use Rattle.il_machine.specs.Headers.{is_away, is_for, weight};
 ghost use Rattle.il_machine.specs.Stock.{times_passed};
 ghost use Rattle.port_stock.specs.Rings.{HasCounted, IsForWhere, is_away_from, is_guest, no_port, recounted, with_number, without_done, without_todo};
 
 use crate::OutOfMemory;
-use crate::entry::{is_away, is_foreign};
+use crate::entry::{is_away, is_foreign, is_guest_of};
 use circular_buffer::HeapCircularBuffer;
-use il_machine::{HeaderState, PortKey, Spot};
+use il_machine::{HeaderState, Owner, PortKey, Spot};
 use std::alloc::Global;
 
 /// So many headers are made for a port at most.
@@ -24,6 +24,13 @@ pub struct Port {
     pub made: u32,
     pub outstanding: u32,
     pub foreign: u32,
+}
+
+/// Whether a header is away before it goes to another owner, and after.
+#[derive(Clone, Copy)]
+pub struct Away {
+    pub before: bool,
+    pub after: bool,
 }
 
 /// What a header counts at a port that it was made for.
@@ -107,5 +114,19 @@ impl Port {
         self.made = self.made - was.made + is.made;
         self.outstanding = self.outstanding - was.outstanding + is.outstanding;
         self.foreign = self.foreign - was.foreign + is.foreign;
+    }
+
+    /// Counts a header anew that was made for the port and goes to the owner.
+    pub fn reown(&mut self, state: &HeaderState, owner: Owner, away: Away)
+        requires counted { HasCounted (Some state.now) self.old }
+        requires made_for { is_for self.old.key state.now ≡ true }
+        requires before { away.before ≡ is_away state.now }
+        requires after { away.after ≡ is_away (record state.now { owner = owner }) }
+        ensures { self.new ≡ recounted self.old.key (Some state.now) (Some (record state.now { owner = owner })) self.old }
+    {
+        let was_guest = is_guest_of(self.key, state.home, state.owner);
+        let is_guest = is_guest_of(self.key, state.home, owner);
+        self.outstanding = self.outstanding - once_where(away.before) + once_where(away.after);
+        self.foreign = self.foreign - once_where(was_guest) + once_where(is_guest);
     }
 }

@@ -1,14 +1,14 @@
 //! The list of ports, and the place of each in it.
 
-ghost use Rattle.std.specs.Prelude.{◌≡◌, ◌+◌, ◌*◌, ◌<◌, ◌≤◌, ◌++◌, true, filter, length, nat_eq, not, position, slice_get, take, vec_capacity, vec_len, IfSome, OnOk, OnErr, MatchOption};
-ghost use Rattle.il_machine.specs.Headers.{same_key};
-ghost use Rattle.port_stock.specs.Conditions.{has_key};
+ghost use Rattle.std.specs.Prelude.{◌≡◌, ◌+◌, ◌*◌, ◌<◌, ◌≤◌, ◌++◌, true, filter, length, nat_eq, not, position, slice_get, take, vec_capacity, vec_len, Some, IfSome, OnOk, OnErr, MatchOption};
+ghost use Rattle.il_machine.specs.Headers.{is_away, is_for, same_key};
+ghost use Rattle.port_stock.specs.Conditions.{IsMadeForOwner, has_key};
 ghost use Rattle.port_stock.specs.Rings.{Differ, HasCounted, IsForWhere, IsKnownBy, Recounts, Replaces, is_at, new_ports, port_at, port_keys, recounted, with_number, without_done, without_todo};
 
 use crate::OutOfMemory;
-use crate::entry::Entry;
-use crate::port::Port;
-use il_machine::{HeaderState, PortKey, Spot};
+use crate::entry::{Entry, is_away, is_away_with};
+use crate::port::{Away, Port};
+use il_machine::{HeaderState, Owner, PortKey, Spot};
 use std::alloc::{AllocError, Global};
 
 /// A port may have so many headers.
@@ -248,6 +248,27 @@ fn recount_at(
     port.recount(before, after);
 }
 
+fn reown_at(
+    firsts: &Firsts,
+    ports: &mut Vec<Port>,
+    key: PortKey,
+    state: &HeaderState,
+    owner: Owner,
+    away: Away,
+)
+    requires there { has_key key (port_keys ports.old.items) ≡ true }
+    requires differ { Differ ports.old.items }
+    requires counted { HasCounted (Some state.now) (port_at key ports.old.items) }
+    requires made_for { is_for key state.now ≡ true }
+    requires before { away.before ≡ is_away state.now }
+    requires after { away.after ≡ is_away (record state.now { owner = owner }) }
+    ensures { Replaces key (recounted key (Some state.now) (Some (record state.now { owner = owner })) (port_at key ports.old.items)) ports.old.items ports.new.items }
+{
+    let place = place_of(firsts, ports, key);
+    let port = &mut ports[place];
+    port.reown(state, owner, away);
+}
+
 fn is_same(peer: PortKey, port: PortKey) -> bool
     ensures { result ≡ same_key peer port }
 {
@@ -279,4 +300,28 @@ pub fn recount(
         return;
     }
     recount_at(firsts, ports, peer, &before, &after);
+}
+
+/// Counts a header anew that goes to the owner, for both ports that it was made for.
+pub fn reown(firsts: &Firsts, ports: &mut Vec<Port>, state: &HeaderState, owner: Owner)
+    requires port { has_key state.now.port (port_keys ports.old.items) ≡ true }
+    requires peer { MatchOption state.now.peer (Unit {0}) (λ key. has_key key (port_keys ports.old.items) ≡ true) }
+    requires differ { Differ ports.old.items }
+    requires counted { (key : PortKey) → HasCounted (Some state.now) (port_at key ports.old.items) }
+    requires before { IsMadeForOwner state.now }
+    requires after { IsMadeForOwner (record state.now { owner = owner }) }
+    ensures { Recounts (Some state.now) (Some (record state.now { owner = owner })) ports.old.items ports.new.items }
+{
+    let away = Away {
+        before: is_away(state),
+        after: is_away_with(state.home, owner),
+    };
+    reown_at(firsts, ports, state.port, state, owner, away);
+    let Some(peer) = state.peer else {
+        return;
+    };
+    if is_same(peer, state.port) {
+        return;
+    }
+    reown_at(firsts, ports, peer, state, owner, away);
 }

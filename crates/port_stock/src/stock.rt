@@ -11,9 +11,10 @@ ghost use Rattle.header_core.specs.Blocks.{IsSameRegion};
 ghost use Rattle.port_stock.specs.Kept.{stocked};
 ghost use Rattle.port_stock.specs.Blocks.{key_of};
 ghost use Rattle.port_stock.specs.Ending.{AreEnding, IsEnding};
+ghost use Rattle.port_stock.specs.Passing.{AreDoneFor, IsPassed};
 ghost use Rattle.port_stock.specs.Conditions.{AllInside, AllWait, AreMadeForOwners, Fits, HasBlockFor, HasFewer, IsFrom, IsMadeFor, IsOfOneList, IsOut, IsOutside, IsPeer, IsPort, IsUnmade, IsWithoutPorts, is_home_among, is_port, made_in, number_of};
 
-use crate::entry::{Entry, owner_at, put_state};
+use crate::entry::{Entry, owner_at};
 use crate::port::Port;
 use crate::ports::Firsts;
 use crate::{OutOfMemory, entries, ports};
@@ -211,6 +212,23 @@ impl Stock {
         Some(entries::take(&mut self.entries, number))
     }
 
+    /// The front of `done` goes to the spot of another port that it was made for, with all that it carries. Answers whether there was one.
+    pub fn pass_done(&mut self, port: PortKey, to: PortKey, spot: Spot) -> bool
+        requires port { IsPort port (stocked self.old) }
+        requires to { IsPort to (stocked self.old) }
+        requires made_for { AreDoneFor port to (stocked self.old) }
+        ensures some { result ≡ not (is_empty ((stocked self.old).headers.done port)) }
+        ensures stock { IsPassed port to spot ((stocked self.old).headers.done port) (stocked self.old) (stocked self.new) }
+    {
+        let Some(number) = ports::send(&self.firsts, &mut self.ports, port) else {
+            return false;
+        };
+        let before = entries::pass(&mut self.entries, number, to, spot);
+        ports::put(&self.firsts, &mut self.ports, to, number, spot);
+        ports::reown(&self.firsts, &mut self.ports, &before, Owner::Port(to));
+        true
+    }
+
     /// Puts a header that is in no list at the spot of a port that it was made for.
     pub fn push_header(&mut self, port: PortKey, header: Header, spot: Spot)
         requires port { IsPort port (stocked self.old) }
@@ -220,16 +238,8 @@ impl Stock {
     {
         let number = header.id();
         let before = entries::put(&mut self.entries, port, header, spot);
-        let after = put_state(port, spot, before);
         ports::put(&self.firsts, &mut self.ports, port, number, spot);
-        let made_for = (before.port, before.peer);
-        ports::recount(
-            &self.firsts,
-            &mut self.ports,
-            made_for,
-            Some(before),
-            Some(after),
-        );
+        ports::reown(&self.firsts, &mut self.ports, &before, Owner::Port(port));
     }
 
     /// Gives a header that is in no list to an owner that is no port.
@@ -239,15 +249,7 @@ impl Stock {
         ensures { stocked self.new ≡ header_given id owner (stocked self.old) }
     {
         let before = entries::give(&mut self.entries, id, owner);
-        let after = HeaderState { owner, ..before };
-        let made_for = (before.port, before.peer);
-        ports::recount(
-            &self.firsts,
-            &mut self.ports,
-            made_for,
-            Some(before),
-            Some(after),
-        );
+        ports::reown(&self.firsts, &mut self.ports, &before, owner);
     }
 
     /// Clears every header of `todo` where it stands.

@@ -1,4 +1,4 @@
-use Rattle.std.proofs.Common.{◌≡◌, ◌++◌, [], ◌∷◌, arith}
+use Rattle.std.proofs.Common.{arith}
 use Rattle.port_stock.proofs.Ending.{ended, ending_fewer, ending_last}
 use Rattle.port_stock.proofs.stock.end_all.Goals as goal
 

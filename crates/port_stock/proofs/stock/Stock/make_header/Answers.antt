@@ -1,4 +1,4 @@
-use Rattle.std.proofs.Common.{vec_capacity, ℕ, Bool, not, List, Option, None, is_some, ◌≡◌, ◌+◌, ◌<◌, ◌≤◌, refl, sym, ◌∙◌, ap, arith, subst}
+use Rattle.std.proofs.Common.{vec_capacity, ℕ, Bool, not, List, Option, None, is_some, ◌≡◌, ◌+◌, ◌<◌, refl, sym, ◌∙◌, ap, arith, subst}
 use Rattle.il_machine.specs.declared.port.PortKey.{PortKey}
 use Rattle.il_machine.specs.declared.header.Home.{Home}
 use Rattle.il_machine.specs.declared.header.Owner.{Owner}
@@ -6,7 +6,6 @@ use Rattle.il_machine.specs.declared.header.Queue.TheVariants.{Out}
 use Rattle.il_machine.specs.declared.header.HeaderState.{HeaderState}
 use Rattle.il_machine.specs.Headers.{weight}
 use Rattle.il_machine.specs.Stock.{made_header, header_made}
-use Rattle.header_core.specs.declared.memory.Store.{Store}
 use Rattle.header_core.specs.BufferHeader.{BufferHeader, fresh}
 use Rattle.port_stock.specs.Blocks.{blocks_out, key_of}
 use Rattle.port_stock.specs.Kept.{stocked}

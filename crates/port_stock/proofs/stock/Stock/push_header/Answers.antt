@@ -1,10 +1,13 @@
-use Rattle.std.proofs.Common.{vec_capacity, ℕ, sym, subst}
+use Rattle.std.proofs.Common.{vec_capacity, ℕ, Some, refl, sym, subst}
+use Rattle.il_machine.specs.declared.header.Owner.TheVariants as owners
+use Rattle.il_machine.specs.Headers.{spot_queue}
 use Rattle.il_machine.specs.Buffers.{load_in}
 use Rattle.il_machine.specs.Stock.{pushed}
 use Rattle.port_stock.specs.Blocks.{blocks_out, key_of}
 use Rattle.port_stock.specs.Kept.{stocked}
 use Rattle.port_stock.specs.Conditions.{IsOutside}
 use Rattle.port_stock.specs.Entries.{AreOf}
+use Rattle.port_stock.proofs.Finding.{requeued_after}
 use Rattle.port_stock.proofs.Knowing.{counted_behind, known_put}
 use Rattle.port_stock.proofs.Turning.{Turns, before_for, count_all, count_before, count_peer, count_port, old, own_key, port_there, push_turns, put_done_room, put_todo_room, table_out}
 use Rattle.port_stock.proofs.stock.Stock.push_header.Goals as goal
@@ -30,34 +33,34 @@ put-requires-clause-todo c = put_todo_room (key_of c.self.inside.region) c.self.
 pub put-requires-clause-done : goal.put-requires-clause-done
 put-requires-clause-done c = put_done_room (key_of c.self.inside.region) c.self.inside.ports.items c.self.inside.entries.items (blocks_out c.self.inside.region) c.self.inside.next _ c.self.invariant.0 c.args.header c.args.port c.put-before.result (rw c.self.view_is c.requires.outside) (rw c.self.view_is c.requires.made_for) c.put-before.ensures.before
 
-pub recount-requires-clause-port : goal.recount-requires-clause-port
-recount-requires-clause-port c = rw c.put.ensures.keys (count_port (key_of c.self.inside.region) c.self.inside.ports.items c.self.inside.entries.items (blocks_out c.self.inside.region) c.self.inside.next _ c.self.invariant.0 c.args.header.held.number c.put-before.result c.put-before.ensures.before)
+pub reown-requires-clause-port : goal.reown-requires-clause-port
+reown-requires-clause-port c = rw c.put.ensures.keys (count_port (key_of c.self.inside.region) c.self.inside.ports.items c.self.inside.entries.items (blocks_out c.self.inside.region) c.self.inside.next _ c.self.invariant.0 c.args.header.held.number c.put-before.result c.put-before.ensures.before)
 
-pub recount-requires-clause-peer : goal.recount-requires-clause-peer
-recount-requires-clause-peer c = rw c.put.ensures.keys (count_peer (key_of c.self.inside.region) c.self.inside.ports.items c.self.inside.entries.items (blocks_out c.self.inside.region) c.self.inside.next _ c.self.invariant.0 c.args.header.held.number c.put-before.result c.put-before.ensures.before)
+pub reown-requires-clause-peer : goal.reown-requires-clause-peer
+reown-requires-clause-peer c = rw c.put.ensures.keys (count_peer (key_of c.self.inside.region) c.self.inside.ports.items c.self.inside.entries.items (blocks_out c.self.inside.region) c.self.inside.next _ c.self.invariant.0 c.args.header.held.number c.put-before.result c.put-before.ensures.before)
 
-pub recount-requires-clause-differ : goal.recount-requires-clause-differ
-recount-requires-clause-differ c = c.put.ensures.differ
+pub reown-requires-clause-differ : goal.reown-requires-clause-differ
+reown-requires-clause-differ c = c.put.ensures.differ
 
-pub recount-requires-clause-counted : goal.recount-requires-clause-counted
-recount-requires-clause-counted c =
+pub reown-requires-clause-counted : goal.reown-requires-clause-counted
+reown-requires-clause-counted c =
     counted_behind c.args.port c.args.spot _ _ c.self.inside.ports.items c.put.new.ports.items (count_all (key_of c.self.inside.region) c.self.inside.ports.items c.self.inside.entries.items (blocks_out c.self.inside.region) c.self.inside.next _ c.self.invariant.0 c.args.header.held.number c.put-before.result c.put-before.ensures.before) c.put.ensures
 
-pub recount-requires-clause-before : goal.recount-requires-clause-before
-recount-requires-clause-before c = count_before (key_of c.self.inside.region) c.self.inside.ports.items c.self.inside.entries.items (blocks_out c.self.inside.region) c.self.inside.next _ c.self.invariant.0 c.args.header.held.number c.put-before.result c.put-before.ensures.before
+pub reown-requires-clause-before : goal.reown-requires-clause-before
+reown-requires-clause-before c = (count_before (key_of c.self.inside.region) c.self.inside.ports.items c.self.inside.entries.items (blocks_out c.self.inside.region) c.self.inside.next _ c.self.invariant.0 c.args.header.held.number c.put-before.result c.put-before.ensures.before).2
 
-pub recount-requires-clause-after : goal.recount-requires-clause-after
-recount-requires-clause-after c =
-    rw c.put_state-after.ensures
-    (known_put c.args.port c.args.spot c.put-before.result (before_for (key_of c.self.inside.region) c.self.inside.ports.items c.self.inside.entries.items (blocks_out c.self.inside.region) c.self.inside.next _ c.self.invariant.0 c.args.header c.args.port c.put-before.result c.put-before.ensures.before (rw c.self.view_is c.requires.made_for)))
+pub reown-requires-clause-after : goal.reown-requires-clause-after
+reown-requires-clause-after c =
+    (known_put c.args.port c.args.spot c.put-before.result (before_for (key_of c.self.inside.region) c.self.inside.ports.items c.self.inside.entries.items (blocks_out c.self.inside.region) c.self.inside.next _ c.self.invariant.0 c.args.header c.args.port c.put-before.result c.put-before.ensures.before (rw c.self.view_is c.requires.made_for))).2
 
-turns : (c : goal.After-recount) → Turns (key_of c.self.inside.region) c.recount.new.ports.items c.put-before.new.entries.items (blocks_out c.self.inside.region) c.self.inside.next (vec_capacity c.put-before.new.entries) (pushed c.args.port c.args.spot c.args.header.held.number (load_in c.args.header.held) (stocked (old (key_of c.self.inside.region) c.self.inside.ports.items c.self.inside.entries.items (blocks_out c.self.inside.region) c.self.inside.next _ c.self.invariant.0)))
+turns : (c : goal.After-reown) → Turns (key_of c.self.inside.region) c.reown.new.ports.items c.put-before.new.entries.items (blocks_out c.self.inside.region) c.self.inside.next (vec_capacity c.put-before.new.entries) (pushed c.args.port c.args.spot c.args.header.held.number (load_in c.args.header.held) (stocked (old (key_of c.self.inside.region) c.self.inside.ports.items c.self.inside.entries.items (blocks_out c.self.inside.region) c.self.inside.next _ c.self.invariant.0)))
 turns c =
     let outside : IsOutside c.args.header (stocked (old (key_of c.self.inside.region) c.self.inside.ports.items c.self.inside.entries.items (blocks_out c.self.inside.region) c.self.inside.next _ c.self.invariant.0)) = rw c.self.view_is c.requires.outside in
     let own = own_key (key_of c.self.inside.region) c.self.inside.ports.items c.self.inside.entries.items (blocks_out c.self.inside.region) c.self.inside.next _ c.self.invariant.0 c.args.header outside in
     let keys : AreOf (key_of c.self.inside.region) c.put-before.new.entries.items = subst (λ (k : ℕ). AreOf k c.put-before.new.entries.items) own (c.put-before.ensures.keys (subst (λ (k : ℕ). AreOf k c.self.inside.entries.items) (sym own) c.self.invariant.0.keys)) in
-    push_turns (key_of c.self.inside.region) c.self.inside.ports.items c.self.inside.entries.items (blocks_out c.self.inside.region) c.self.inside.next _ c.self.invariant.0 c.put.new.ports.items c.recount.new.ports.items c.put-before.new.entries.items _ c.args.port c.args.spot c.args.header c.put-before.result c.put_state-after.result
-    outside (rw c.self.view_is c.requires.made_for) c.put-before.ensures.before c.put_state-after.ensures c.put-before.ensures.headers c.put-before.ensures.kept keys (rw c.id-number.ensures at c.put.ensures) c.recount.ensures c.put-before.ensures.capacity
+    push_turns (key_of c.self.inside.region) c.self.inside.ports.items c.self.inside.entries.items (blocks_out c.self.inside.region) c.self.inside.next _ c.self.invariant.0 c.put.new.ports.items c.reown.new.ports.items c.put-before.new.entries.items _ c.args.port c.args.spot c.args.header c.put-before.result _
+    outside (rw c.self.view_is c.requires.made_for) c.put-before.ensures.before refl c.put-before.ensures.headers c.put-before.ensures.kept keys (rw c.id-number.ensures at c.put.ensures)
+    (requeued_after (Some c.put-before.result) (record c.put-before.result { owner = owners.Port c.args.port }) (spot_queue c.args.spot) c.put.new.ports.items c.reown.new.ports.items c.reown.ensures) c.put-before.ensures.capacity
 
 pub invariant_of-self : goal.invariant_of-self
 invariant_of-self c = ((turns c).lawful, c.self.invariant.1)

@@ -1,4 +1,4 @@
-use Rattle.std.proofs.Common.{vec_capacity, ◌≡◌, ◌+◌, ◌≤◌, Bool, not, arith, subst}
+use Rattle.std.proofs.Common.{vec_capacity, ◌≡◌, ◌+◌, Bool, not, arith, subst}
 use Rattle.il_machine.specs.Headers.{weight}
 use Rattle.il_machine.specs.Buffers.{is_block}
 use Rattle.il_machine.specs.Stock.{header_unmade}
