@@ -1,7 +1,8 @@
 #!/usr/bin/env bash
 # Plays three samples, and a made minute, with the built program over a host one of whose calls on one file fails, or whose file ends
-# before its size, without workers and with three, and compares what is printed, the status, the sink and the log with what the rules
-# say. The earlier log stays where none is made. Needs a C compiler for the small library that fails.
+# before its size, without workers and with three, the minute with one and with eight too, and compares what is printed, the status,
+# the sink and the log with what the rules say. The earlier log stays where none is made. Needs a C compiler for the small library
+# that fails.
 # Its last line is 'host: N passed, M failed'.
 . "$(dirname "${BASH_SOURCE[0]}")/program.sh"
 if ! command -v cc >/dev/null; then
@@ -12,7 +13,7 @@ room=$(mktemp -d)
 trap 'rm -rf "$room"' EXIT
 cc -O1 -shared -fPIC -o "$room/fail.so" "$top/tests/host/fail.c" -ldl
 python3 - "$top" "$program" "$room" <<'PY'
-import itertools, os, shutil, subprocess, sys
+import os, shutil, subprocess, sys
 
 top, program, room = sys.argv[1:]
 earlier = b'an earlier log\n'
@@ -43,6 +44,7 @@ cases = [
     ('minute', 'write', 3, 'w/out.wav', unwritten, front),
     ('minute', 'write', 1, 'log', unwritten, whole),
 ]
+numbers_of_workers = {'three': (0, 3), 'minute': (0, 1, 3, 8)}
 
 
 def play(folder, script, workers=0, fault=None):
@@ -83,14 +85,14 @@ for name, (script, sink) in scripts.items():
     if status != 0 or not log.endswith(b'\nend\n'):
         bad += 1
         print(f'{name}: {printed!r}, status {status}')
-for (name, kind, number, file, told, left), workers in itertools.product(cases, (0, 3)):
+for (name, kind, number, file, told, left), workers in ((case, it) for case in cases for it in numbers_of_workers[case[0]]):
     script, sink = scripts[name]
     if os.path.exists(f'{room}/{name}/{sink}'):
         os.remove(f'{room}/{name}/{sink}')
     got, log = play(f'{room}/{name}', script, workers, (kind, number, file))
     has = extent(content(f'{room}/{name}/{sink}'), sinks[name])
     is_left = has in left or (workers > 0 and left == begun and has == 'empty')
-    # a log that was opened has a front of its text, which by workers has another order behind its first line
+    # a log that was opened has a prefix of its text, which by workers has another order behind its first line
     known = len(log) if workers == 0 else logs[name].index(b'\n')
     is_kept = logs[name].startswith(log[:known]) if (kind, file) == ('write', 'log') else log == earlier
     if got == told and is_left and is_kept:

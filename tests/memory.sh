@@ -1,7 +1,7 @@
 #!/usr/bin/env bash
 # Plays the mix of examples/play, the same with a late source, and the mix of three links of tests/plays without workers and with two,
 # as often as each takes memory, and refuses another allocation each time: the play is told `out of memory`, status 7, leaves the log
-# of an earlier play as it is, and of its sink's file nothing or a front; and of the first two, one that is refused a line of its log in
+# of an earlier play as it is, and of its sink's file nothing or a prefix; and of the first two, one that is refused a line of its log in
 # the midst of its samples stops with less than the whole. Workers can take memory fewer times than before, and do without a thread that
 # can't be made: then the play is whole. Needs a C compiler for the small library that refuses. Its last line is 'memory: N passed, M failed'.
 . "$(dirname "${BASH_SOURCE[0]}")/program.sh"

@@ -1,12 +1,12 @@
 -- What a pass has asked more, one after another.
-use Rattle.std.proofs.Common.{◌≡◌, ◌≢◌, ℕ, Bool, true, false, List, [], ◌∷◌, ◌++◌, refl, sym, ◌∙◌, ap, subst, append-nil, append_assoc}
+use Rattle.std.proofs.Common.{◌≡◌, Bool, true, false, List, [], ◌∷◌, ◌++◌, refl, sym, ◌∙◌, ap, subst, append-nil, append_assoc}
 use Rattle.il_machine.specs.Acts as acts
 use Rattle.turnstile.specs.declared.entry.Entry.{Entry}
 use Rattle.graph_acts.specs.declared.act.Act.{Act}
 use Rattle.graph_acts.specs.declared.act.Reply.{Reply}
 use Rattle.graph_acts.specs.Plain.{Sight}
 use Rattle.board.specs.Asking.{ArePlain, IsPlain}
-use Rattle.conducting_thread.specs.Asking.{AreAnswered, HasAsked, IsAnsweredOtherwise}
+use Rattle.conducting_thread.specs.Asking.{AreAnswered, HasAsked}
 
 module _ {S K C : Type 0} (see : Sight S K C) where
   abbrev Entries : Type 0

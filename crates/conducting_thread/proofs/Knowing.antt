@@ -1,5 +1,5 @@
 -- The one who conducts knows its plan at first, and whatever it hears and answers.
-use Rattle.std.proofs.Common.{◌≡◌, ℕ, zero, suc, ◌+◌, ◌<◌, Bool, true, false, ◌==◌, List, [], ◌∷◌, ◌++◌, length, map, All, find, get_or, slice_get, slice_set, Option, Some, None, refl, sym, ◌∙◌, ap, subst, arith}
+use Rattle.std.proofs.Common.{◌≡◌, ℕ, suc, ◌<◌, Bool, true, ◌==◌, List, [], ◌∷◌, length, All, find, get_or, slice_get, Option, Some, None, refl, sym, ◌∙◌, ap, subst, arith}
 use Rattle.std.proofs.lemmas.Bool.{eqb-true}
 use Rattle.std.proofs.lemmas.List.{length-replicate}
 use Rattle.std.proofs.lemmas.List.Elements.{All-append, All-cons, All-get_or, All-map, All-nil, All-set}
@@ -14,12 +14,12 @@ use Rattle.conductor.specs.declared.phase.LateLink.{LateLink}
 use Rattle.conductor.specs.declared.phase.Phase.{Phase}
 use Rattle.conductor.specs.declared.phase.Phase.TheVariants as phases
 use Rattle.conductor.specs.Casting.{cast_of, late_link, late_links, link_from}
-use Rattle.conductor.specs.Hearing.{ConductorValue, heard, heard_late, heard_lates, heard_views}
+use Rattle.conductor.specs.Hearing.{ConductorValue, heard, heard_late, heard_views}
 use Rattle.conductor.specs.Phases.{Conducts, IsChange, one_step_more}
 use Rattle.play_forms.specs.declared.joint.Joint.{Joint}
 use Rattle.play_forms.specs.Plans.{PlanValue}
 use Rattle.play_forms.proofs.Places.{Some_same, either}
-use Rattle.play_plan_laws.specs.Casting.{joint_of, no_joint}
+use Rattle.play_plan_laws.specs.Casting.{no_joint}
 use Rattle.conducting_thread.specs.Knowing.{GivesInto, IsOfPlan, KnowsPlan}
 
 -- ---- what is found first

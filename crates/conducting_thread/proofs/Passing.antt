@@ -1,5 +1,5 @@
 -- The pass that conducts, at first and behind a round.
-use Rattle.std.proofs.Common.{◌≡◌, ℕ, Bool, true, false, List, [], ◌∷◌, length, Option, inl, inr, refl, sym, ◌∙◌, ap, subst}
+use Rattle.std.proofs.Common.{◌≡◌, Bool, true, false, List, [], ◌∷◌, length, Option, inl, inr, refl, sym, ◌∙◌, ap, subst}
 use Rattle.std.proofs.lemmas.List.Elements.{All-nil}
 use Rattle.il_machine.specs.declared.answer.Progress.{Progress}
 use Rattle.il_machine.specs.Acts as acts
@@ -26,7 +26,7 @@ use Rattle.conducting_thread.specs.Asking.{AreAnswered, AreStepless, HasAsked, I
 use Rattle.conducting_thread.specs.Knowing.{KnowsPlan}
 use Rattle.conducting_thread.specs.Looking.{HasLost}
 use Rattle.conducting_thread.specs.Passes.{GoesOnAfter, IsConductingPass, is_end, round_of}
-use Rattle.conducting_thread.specs.Seating.{handles_of}
+use Rattle.work_signs.specs.Seats.{handles_of}
 use Rattle.conducting_thread.proofs.Knowing.{knows_first}
 use Rattle.conducting_thread.proofs.Requests.{keeps_on}
 use Rattle.conducting_thread.proofs.Rounds.{goes_on, is_lost, is_refused}

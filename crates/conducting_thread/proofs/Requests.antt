@@ -1,5 +1,5 @@
 -- A request that was made, and its answer.
-use Rattle.std.proofs.Common.{◌≡◌, ◌≢◌, ℕ, Bool, true, false, List, [], ◌∷◌, ◌++◌, All, Result, Ok, Err, is_ok, refl, sym, ◌∙◌, ap, subst}
+use Rattle.std.proofs.Common.{◌≡◌, ◌≢◌, ℕ, false, List, [], ◌∷◌, ◌++◌, Ok, Err, refl, sym, ◌∙◌, subst}
 use Rattle.std.proofs.lemmas.List.Elements.{All-push}
 use Rattle.omx_types.specs.declared.param.Supplier.TheVariants.{Input, Output, Unspecified}
 use Rattle.il_machine.specs.declared.answer.Progress.{Progress}
@@ -22,7 +22,7 @@ use Rattle.work_signs.specs.declared.seat.Seat.{Seat}
 use Rattle.pass_book.specs.Books.{GoesOn, IsBook, Made}
 use Rattle.pass_book.specs.Moves.{HoldsAsBefore}
 use Rattle.pass_book.specs.Quiet.{IsQuietReply, act_of, reply_of}
-use Rattle.conducting_thread.specs.Asking.{AreAnswered, AreStepless, HasAsked, IsRequest, IsStepless, Keeps, due, is_accepted}
+use Rattle.conducting_thread.specs.Asking.{AreAnswered, AreStepless, IsRequest, IsStepless, Keeps, due, is_accepted}
 use Rattle.conducting_thread.proofs.Asked.{asked_one}
 
 module _ {S K C : Type 0} (see : Sight S K C) (p : ℕ) (old new : List (Entry (Act S K C) (Reply S K C))) where

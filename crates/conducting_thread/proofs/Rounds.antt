@@ -1,5 +1,5 @@
 -- A round of the one who conducts: looks, and then what is due.
-use Rattle.std.proofs.Common.{◌≡◌, ℕ, suc, ◌+◌, ◌<◌, Bool, true, false, List, [], ◌∷◌, ◌++◌, length, map, take, slice_get, slice_set, Option, Some, None, Ok, Err, inl, inr, refl, sym, ◌∙◌, ap, subst, append_assoc, arith}
+use Rattle.std.proofs.Common.{◌≡◌, ℕ, ◌+◌, ◌<◌, List, [], ◌∷◌, ◌++◌, length, take, slice_get, slice_set, Option, Some, None, Ok, Err, inl, inr, refl, sym, ◌∙◌, ap, subst, append_assoc, arith}
 use Rattle.std.specs.Prelude.{IfNone, ◌≤◌, option_map}
 use Rattle.std.proofs.lemmas.List.{length-map, length-take-le, take-map, take_more_set}
 use Rattle.std.proofs.lemmas.Option.{slice_get-map, slice_get_within}
@@ -13,7 +13,7 @@ use Rattle.conductor.specs.Hearing.{ConductorValue, heard}
 use Rattle.conductor.specs.Phases.{Conducts}
 use Rattle.play_forms.specs.Plans.{PlanValue}
 use Rattle.play_plan_laws.specs.Assemblies.{PlayFiles}
-use Rattle.play_result_laws.specs.Rounds.{AreMade, IsConducting, IsHalted, IsLostLook, IsRefused, looks, round}
+use Rattle.play_result_laws.specs.Rounds.{AreMade, IsConducting, IsHalted, IsLostLook, looks, round}
 use Rattle.graph_acts.specs.declared.act.Act.{Act}
 use Rattle.graph_acts.specs.declared.act.Reply.{Reply}
 use Rattle.graph_acts.specs.Plain.{Sight}
@@ -21,7 +21,7 @@ use Rattle.board.specs.Asking.{ArePlain}
 use Rattle.conducting_thread.specs.Asking.{HasAsked, IsAnsweredOtherwise}
 use Rattle.work_signs.specs.declared.seat.Seat.{Seat}
 use Rattle.conducting_thread.specs.Looking.{HasLost}
-use Rattle.conducting_thread.specs.Seating.{handles_of}
+use Rattle.work_signs.specs.Seats.{handles_of}
 use Rattle.conducting_thread.proofs.Lists.{one_more}
 use Rattle.conducting_thread.proofs.Asked.{split}
 

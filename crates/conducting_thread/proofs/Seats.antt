@@ -1,5 +1,5 @@
 -- The seats of a plan: each request of a change is one at a port that its component has.
-use Rattle.std.proofs.Common.{◌≡◌, ℕ, ◌<◌, ◌≤◌, Bool, true, false, nat_lt, nat_le, ◌&&◌, List, [], ◌∷◌, length, map, take, slice_get, get_or, All, Option, Some, None, option_map, refl, sym, ◌∙◌, ap, subst, arith}
+use Rattle.std.proofs.Common.{◌≡◌, ℕ, ◌<◌, Bool, true, false, nat_lt, nat_le, List, [], ◌∷◌, length, map, take, slice_get, get_or, All, Option, Some, None, option_map, refl, sym, ◌∙◌, ap, subst, arith}
 use Rattle.std.specs.Prelude.{not}
 use Rattle.std.specs.List.{list_any}
 use Rattle.std.proofs.lemmas.Bool.{le-ltb, leb-true}
@@ -7,8 +7,6 @@ use Rattle.std.proofs.lemmas.List.Elements.{All-cons, All-get_or, All-nil}
 use Rattle.std.proofs.lemmas.Option.{get_or_from_slice_get, slice_get-get_or, slice_get-map, slice_get_within}
 use Rattle.omx_types.specs.declared.kind.Kind.{Kind}
 use Rattle.omx_types.specs.declared.handle.Handle.{Handle}
-use Rattle.omx_types.specs.declared.handle.PortId.{PortId}
-use Rattle.il_machine.specs.declared.port.PortKey.{PortKey}
 use Rattle.part_forms.specs.Kinds.{inputs_of, is_input, ports_in}
 use Rattle.machine_laws.proofs.Every.{from_places}
 use Rattle.script_lang.specs.declared.play_line.PartLine.{PartLine}
@@ -31,11 +29,12 @@ use Rattle.play_world_laws.proofs.Lists.{get_there}
 use Rattle.pass_book.specs.declared.quiet.QuietAct.{QuietAct}
 use Rattle.pass_book.specs.declared.quiet.QuietAct.TheVariants.{DropTunnel, SetupTunnel}
 use Rattle.work_signs.specs.declared.seat.Seat.{Seat}
-use Rattle.pass_book.specs.Seats.{IsDefinition, IsSeated}
+use Rattle.pass_book.specs.Seats.{IsSeated}
 use Rattle.conducting_thread.specs.Asking.{IsRequestOf, due}
 use Rattle.conducting_thread.specs.declared.link_ends.LinkEnds.{LinkEnds}
 use Rattle.conducting_thread.specs.Changing.{change_acts, definition_of, disabling, enabling, ends_of, port_of, setting}
-use Rattle.conducting_thread.specs.Seating.{AreSeatsFor, handles_of}
+use Rattle.work_signs.specs.Seats.{handles_of}
+use Rattle.conducting_thread.specs.Seating.{AreSeatsFor}
 
 -- ---- the directions of ports
 

@@ -1,5 +1,5 @@
 -- What a pass has requested more, as the machine has it, and whether all of it was accepted.
-use Rattle.std.specs.Prelude.{◌≡◌, ◌≢◌, Bool, true, false, List, [], ◌∷◌, ◌++◌, All, Result, Ok, Err, is_ok}
+use Rattle.std.specs.Prelude.{◌≡◌, ◌≢◌, Bool, true, false, List, ◌∷◌, ◌++◌, All, Result, Ok, Err, is_ok}
 use Rattle.omx_types.specs.declared.error.OmxError.{OmxError}
 use Rattle.omx_types.specs.declared.param.Supplier.{Supplier}
 use Rattle.omx_types.specs.declared.param.Supplier.TheVariants.{Input, Output, Unspecified}

@@ -24,7 +24,7 @@ use Rattle.conducting_thread.specs.declared.conducting.Round.{Round}
 use Rattle.conducting_thread.specs.declared.conducting.Round.TheVariants.{Asks, Ends, Waits}
 use Rattle.conducting_thread.specs.Asking.{AreStepless}
 use Rattle.conducting_thread.specs.Knowing.{KnowsPlan}
-use Rattle.conducting_thread.specs.Seating.{handles_of}
+use Rattle.work_signs.specs.Seats.{handles_of}
 
 -- the play is over
 abbrev pub is_end : Phase → Bool

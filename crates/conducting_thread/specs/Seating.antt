@@ -1,14 +1,10 @@
 -- The seats of a plan's components.
-use Rattle.std.specs.Prelude.{◌≡◌, ℕ, nat_lt, List, length, map, slice_get, Some}
-use Rattle.omx_types.specs.declared.handle.Handle.{Handle}
+use Rattle.std.specs.Prelude.{◌≡◌, ℕ, nat_lt, List, length, slice_get, Some}
 use Rattle.part_forms.specs.Kinds.{is_input}
 use Rattle.script_lang.specs.declared.play_line.PartLine.{PartLine}
 use Rattle.play_forms.specs.Parts.{kind_of}
 use Rattle.play_forms.specs.Plans.{PlanValue}
 use Rattle.work_signs.specs.declared.seat.Seat.{Seat}
-
-abbrev pub handles_of : List Seat → List Handle
-handles_of seats = map (λ (seat : Seat). seat.handle) seats
 
 -- one for each component, in the order of the script, by which its number is its place; and its inputs are those of its kind
 pub record AreSeatsFor (plan : PlanValue) (seats : List Seat) : Type 0 where

@@ -3,7 +3,6 @@
 
 ghost use Rattle.std.specs.Prelude.{◌≡◌, All, List, map};
 ghost use Rattle.il_machine.specs.Acts as acts;
-ghost use Rattle.conductor.specs.declared.phase.ChangeStep.TheVariants as steps;
 ghost use Rattle.conductor.specs.declared.phase.Phase.TheVariants as phases;
 ghost use Rattle.play_forms.specs.Plans.{IsValid};
 ghost use Rattle.play_plan_laws.specs.Assemblies.{PlayFiles};
@@ -14,7 +13,8 @@ ghost use Rattle.pass_book.specs.Books.{IsBook};
 ghost use Rattle.conducting_thread.specs.Asking.{AreAnswered, IsRequestOf, Keeps, due};
 ghost use Rattle.conducting_thread.specs.Changing.{change_acts, disabling, enabling, setting};
 ghost use Rattle.conducting_thread.specs.Knowing.{GivesInto};
-ghost use Rattle.conducting_thread.specs.Seating.{AreSeatsFor, handles_of};
+ghost use Rattle.work_signs.specs.Seats.{handles_of};
+ghost use Rattle.conducting_thread.specs.Seating.{AreSeatsFor};
 
 use crate::asking::ask_all;
 use crate::link_ends::{LinkEnds, ends_of, link_from};

@@ -17,7 +17,8 @@ ghost use Rattle.pass_book.specs.Books.{IsBook};
 ghost use Rattle.conducting_thread.specs.Asking.{AreAnswered, Keeps};
 ghost use Rattle.conducting_thread.specs.Knowing.{IsOfPlan, KnowsPlan};
 ghost use Rattle.conducting_thread.specs.Passes.{GoesOnAfter, IsAtEnd, IsConductingPass, is_end, round_of};
-ghost use Rattle.conducting_thread.specs.Seating.{AreSeatsFor, handles_of};
+ghost use Rattle.work_signs.specs.Seats.{handles_of};
+ghost use Rattle.conducting_thread.specs.Seating.{AreSeatsFor};
 
 use crate::asking::send_all;
 use crate::changing::change;

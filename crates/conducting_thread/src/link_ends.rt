@@ -6,7 +6,8 @@ ghost use Rattle.play_plan_laws.specs.Casting.{flow_of, joint_of, no_joint};
 ghost use Rattle.work_signs.specs.declared.seat.Seat.{Seat};
 ghost use Rattle.conducting_thread.specs.Changing.{ends_of};
 ghost use Rattle.conducting_thread.specs.Knowing.{GivesInto};
-ghost use Rattle.conducting_thread.specs.Seating.{AreSeatsFor, handles_of};
+ghost use Rattle.work_signs.specs.Seats.{handles_of};
+ghost use Rattle.conducting_thread.specs.Seating.{AreSeatsFor};
 
 use omx_types::{Handle, PortDefinition, PortId};
 use play_forms::{Flow, Joint};

@@ -11,7 +11,7 @@ ghost use Rattle.work_signs.specs.declared.seat.Seat.{Seat};
 ghost use Rattle.pass_book.specs.Seats.{IsSeated};
 ghost use Rattle.conducting_thread.specs.Asking.{HasAsked, Keeps};
 ghost use Rattle.conducting_thread.specs.Looking.{HasLost};
-ghost use Rattle.conducting_thread.specs.Seating.{AreSeatsFor, handles_of};
+ghost use Rattle.work_signs.specs.Seats.{handles_of};
 
 use crate::link_ends::handle_at;
 use board::Board;

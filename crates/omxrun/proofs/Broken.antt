@@ -1,10 +1,9 @@
 -- What workers leave of a play, whether or not it was done whole.
-use Rattle.std.proofs.Common.{◌≡◌, inr, ℕ, ◌+◌, true, false, All, List, length, map, Option, refl, sym, ◌∙◌, ap, subst, arith}
+use Rattle.std.proofs.Common.{◌≡◌, inr, ℕ, ◌+◌, true, false, All, List, length, map, Option, refl, sym, subst, arith}
 use Rattle.outside_io.specs.declared.sink.Sink.{Ghosts as SinkGhosts}
 use Rattle.outside_io.specs.declared.source.Source.{Ghosts as SourceGhosts}
 use Rattle.audio_parts.specs.declared.part_file.PartFile.{PartFile}
 use Rattle.il_machine.specs.declared.answer.Progress.{Progress}
-use Rattle.il_machine.specs.Acts.{Act, Reply}
 use Rattle.il_machine.specs.Whole.{Always}
 use Rattle.il_graph.specs.Shown.{TellWritten, offered}
 use Rattle.turnstile.specs.Entries.{own}
@@ -30,7 +29,7 @@ use Rattle.play_graph.specs.Making.{AreOffered}
 use Rattle.play_run.proofs.ThreadFiles.{are_offered}
 use Rattle.play_workers.specs.declared.ran.Ran.{Ran}
 use Rattle.play_workers.specs.Wholes.{HasCounted}
-use Rattle.worker_play_laws.specs.Lines.{GatesCount, merged_text}
+use Rattle.worker_play_laws.specs.Lines.{merged_text}
 use Rattle.omxrun.specs.Answers.{IsBrokenOff, IsDone}
 use Rattle.omxrun.specs.Reasons.{reason_of}
 use Rattle.omxrun.specs.Runs.{HasRun}

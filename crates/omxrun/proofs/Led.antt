@@ -1,5 +1,5 @@
 -- What workers did with a graph that was made is a play of the plan.
-use Rattle.std.proofs.Common.{◌≡◌, inl, inr, ℕ, ◌+◌, ◌^◌, ◌<◌, ◌≤◌, Bool, true, false, All, List, [], ◌∷◌, length, Option, Some, None, option_map, refl, sym, ◌∙◌, ap, subst, arith}
+use Rattle.std.proofs.Common.{◌≡◌, ℕ, ◌^◌, ◌<◌, ◌≤◌, true, false, All, List, [], ◌∷◌, length, Option, Some, None, option_map, refl, sym, ◌∙◌, ap, subst, arith}
 use Rattle.std.specs.Prelude.{IfSome}
 use Rattle.std.proofs.lemmas.List.{length-map}
 use Rattle.omx_types.specs.declared.fault.PartFault.{PartFault}
@@ -12,7 +12,7 @@ use Rattle.il_machine.specs.declared.answer.Progress.{Progress}
 use Rattle.il_machine.specs.Run.{Run}
 use Rattle.il_machine.specs.Whole.{Always, Stands}
 use Rattle.il_machine.specs.Sound.{Sound}
-use Rattle.il_machine.specs.World.{Stream, World}
+use Rattle.il_machine.specs.World.{Stream}
 use Rattle.machine_laws.proofs.Every.{at_place, from_places}
 use Rattle.machine_laws.proofs.Finding.{either}
 use Rattle.il_graph.specs.Shown.{Shown, TellWritten, offered}
@@ -27,8 +27,7 @@ use Rattle.graph_acts.specs.Plain.{Sight}
 use Rattle.board.specs.Asking.{ArePlain, bare_log}
 use Rattle.board.specs.Histories.{graph_of}
 use Rattle.worker_play_laws.specs.Entries.{entries_of}
-use Rattle.work_signs.specs.declared.seat.Seat.{Seat}
-use Rattle.work_signs.specs.Seats.{AreSeatsOf, handles_of}
+use Rattle.work_signs.specs.Seats.{AreSeatsOf}
 use Rattle.conductor.specs.declared.phase.Phase.TheVariants.{Over}
 use Rattle.conductor.specs.Phases.{Conducts}
 use Rattle.play_build_laws.specs.Dismantling.{AreLinks}
@@ -46,8 +45,6 @@ use Rattle.play_plan_laws.specs.Endings.{HasEnded, IsPlayedOut, ends_of}
 use Rattle.play_result_laws.specs.Passes.{own_steps}
 use Rattle.play_result_laws.specs.Rounds.{IsConducting, IsHalted}
 use Rattle.play_history_laws.specs.Worked.{conducts}
-use Rattle.play_course.specs.declared.player.RunFault.{RunFault}
-use Rattle.play_course.specs.declared.player.RunFault.TheVariants.{OutOfMemory}
 use Rattle.play_course.specs.Failing.{HasFailure, TellsFirst}
 use Rattle.play_graph.specs.Ending.{AreFilesOf, StandsFor}
 use Rattle.play_graph.specs.Graphs.{kept_of}

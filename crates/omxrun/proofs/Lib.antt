@@ -3,6 +3,7 @@ pub mod Causes
 pub mod Clocks
 pub mod Commands
 pub mod Complete
+pub mod Endings
 pub mod Files
 pub mod Forms
 pub mod Lefts
@@ -22,5 +23,4 @@ pub mod Begun
 pub mod Led
 pub mod Broken
 pub mod OwnNames
-pub mod NoGates
 pub mod Ran

@@ -1,5 +1,5 @@
 -- Nothing is out of a graph that was made; it can be stopped, and then each file is as it was.
-use Rattle.std.proofs.Common.{◌≡◌, ℕ, ◌<◌, ◌≤◌, false, All, List, [], length, slice_get, Option, Some, None, refl, sym, ◌∙◌, ap, subst, inl, arith}
+use Rattle.std.proofs.Common.{◌≡◌, ℕ, ◌≤◌, false, All, List, [], length, Option, None, refl, sym, ◌∙◌, ap, subst, inl, arith}
 use Rattle.std.proofs.lemmas.List.Elements.{All-nil}
 use Rattle.outside_io.specs.declared.sink.Sink.{Ghosts as SinkGhosts}
 use Rattle.outside_io.specs.declared.source.Source.{Ghosts as SourceGhosts}
@@ -8,7 +8,7 @@ use Rattle.il_machine.specs.declared.answer.Progress.{Progress}
 use Rattle.il_machine.specs.Buffers.{IsWithClient}
 use Rattle.il_machine.specs.Headers.{seen}
 use Rattle.il_machine.specs.Look.{Look, look}
-use Rattle.il_machine.specs.World.{Component, HeaderRecord, World}
+use Rattle.il_machine.specs.World.{Component, HeaderRecord}
 use Rattle.machine_laws.proofs.Every.{from_places}
 use Rattle.il_graph.specs.Shown.{Shown}
 use Rattle.board.specs.Boards.{HasAllBack}
@@ -17,14 +17,13 @@ use Rattle.play_build_laws.specs.Dismantling.{AreLinks}
 use Rattle.play_build_laws.specs.Stages.{Joining}
 use Rattle.play_forms.specs.Plans.{PlanValue}
 use Rattle.play_log.specs.Entries.{Entry}
-use Rattle.play_plan_laws.specs.Assemblies.{IsReady, PlayFiles}
+use Rattle.play_plan_laws.specs.Assemblies.{PlayFiles}
 use Rattle.play_plan_laws.specs.Endings.{ends_of}
-use Rattle.play_result_laws.specs.Rounds.{IsConducting, begins}
+use Rattle.play_result_laws.specs.Rounds.{begins}
 use Rattle.play_history_laws.specs.Refused.{IsAtPart}
 use Rattle.play_history_laws.specs.Worked.{IsWorked}
-use Rattle.play_files.specs.Seen.{FileSeen}
 use Rattle.play_course.specs.declared.player.RunFault.TheVariants.{OutOfMemory}
-use Rattle.play_course.specs.Players.{AreFilesOf as AreSeenFiles, CanPlay, IsFailed}
+use Rattle.play_course.specs.Players.{CanPlay}
 use Rattle.play_course.specs.Running.{AreSameFiles}
 use Rattle.play_graph.specs.Ending.{AreFilesOf, StandsFor}
 use Rattle.play_graph.specs.Making.{IsAt}
@@ -32,7 +31,6 @@ use Rattle.play_graph.specs.Stops.{HasNoneOut, HasStopped}
 use Rattle.play_run.proofs.Played.{untouched}
 use Rattle.play_run.proofs.ThreadFiles.{files_same}
 use Rattle.omxrun.specs.Answers.{IsBrokenOff}
-use Rattle.omxrun.specs.Runs.{IsMadeFrom}
 use Rattle.omxrun.specs.Sights.{all_seen}
 use Rattle.omxrun.proofs.Placed.{same_lists}
 use Rattle.omxrun.proofs.Premises.{WorldLaws}

@@ -1,17 +1,15 @@
 -- The seats of a graph that was made are those of its components.
-use Rattle.std.proofs.Common.{◌≡◌, inl, inr, ℕ, zero, suc, ◌+◌, ◌<◌, ◌≤◌, List, [], ◌∷◌, length, map, set, slice_get, take, Option, Some, None, option_map, refl, sym, ◌∙◌, ap, subst, arith}
+use Rattle.std.proofs.Common.{◌≡◌, inl, inr, ℕ, zero, suc, ◌+◌, ◌<◌, ◌≤◌, List, [], ◌∷◌, length, map, set, slice_get, take, Some, option_map, refl, sym, ◌∙◌, ap, subst, arith}
 use Rattle.std.specs.Prelude.{nat_lt}
 use Rattle.std.proofs.lemmas.Bool.{cases_eq}
 use Rattle.std.proofs.lemmas.List.{length-map}
 use Rattle.std.proofs.lemmas.Option.{slice_get-map, slice_get_within}
 use Rattle.omx_types.specs.declared.handle.Handle.{Handle}
 use Rattle.il_machine.specs.declared.answer.Progress.{Progress}
-use Rattle.il_machine.specs.World.{Component, World, number_of}
+use Rattle.il_machine.specs.World.{Component}
 use Rattle.machine_laws.proofs.Every.{set_else, set_there}
 use Rattle.il_graph.specs.Shown.{Shown}
-use Rattle.part_forms.specs.Kinds.{is_input}
 use Rattle.script_lang.specs.declared.play_line.PartLine.{PartLine}
-use Rattle.play_forms.specs.Parts.{kind_of}
 use Rattle.play_forms.specs.Plans.{PlanValue}
 use Rattle.play_build_laws.specs.Stages.{Joining}
 use Rattle.play_build_laws.proofs.Places.{get_there}

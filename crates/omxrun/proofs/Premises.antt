@@ -1,5 +1,5 @@
 -- The laws on which the player by workers stands, as they are passed on.
-use Rattle.std.proofs.Common.{◌≡◌, ℕ, ◌+◌, ◌<◌, ◌≤◌, Bool, true, false, All, List, length, Option, Some, None}
+use Rattle.std.proofs.Common.{◌≡◌, ℕ, ◌+◌, ◌<◌, ◌≤◌, Bool, true, false, All, List, length, Option, Some}
 use Rattle.omx_types.specs.declared.fault.PartFault.{PartFault}
 use Rattle.omx_types.specs.declared.handle.Handle.{Handle}
 use Rattle.outside_io.specs.declared.sink.Sink.{Ghosts as SinkGhosts}

@@ -6,6 +6,8 @@ use Rattle.std.specs.Io.KnownBytes.{append_known}
 use Rattle.outside_io.specs.Causes.{Rose}
 use Rattle.outside_io.specs.Files.{Outside}
 use Rattle.outside_io.specs.Moves.{AppendsFront}
+use Rattle.outside_io.specs.Writings.{WritesUntil}
+use Rattle.outside_io.specs.declared.writing.Writing.{Writing}
 use Rattle.outside_io.specs.Whole.{HasReadReason, WasOpened}
 use Rattle.outside_io.specs.declared.whole.Unread.{Unread}
 use Rattle.outside_io.specs.declared.whole.Unread.TheVariants as Unreads
@@ -25,7 +27,7 @@ use Rattle.trace_run.specs.Traced.{GotTrace, GotFront, GotLines, IsStopped}
 use Rattle.omxrun.specs.Asked.{IsGiven, CanTrace, IsUntraced, IsFaultless, IsOrMemory}
 use Rattle.omxrun.specs.Faults.{fault_of_script}
 use Rattle.omxrun.specs.Texts.{fault_line}
-use Rattle.omxrun.specs.Reports.{IsPrinted, status_of}
+use Rattle.omxrun.specs.Reports.{HasStopped, IsPrinted, status_of}
 use Rattle.omxrun.specs.Traced.{HasScriptReason, TracesTo, IsTraceOf, IsTraceOutcome}
 use Rattle.omxrun.proofs.Complete.{none-some, printed-status, same-text}
 
@@ -115,6 +117,21 @@ told-stopped script old new before now (Faults.Short which at size) other stoppe
 told-stopped script old new before now (Faults.Units have need) other stopped = absurd stopped
 told-stopped script old new before now (Faults.Packets why) other stopped = absurd stopped
 told-stopped script old new before now (Faults.NotRun line why) other stopped = absurd stopped
+
+-- a trace that stopped without want of memory stopped at the write that failed
+pub stopped-writing : (script : Script) (old new : Option (List ℕ)) (before now : ℕ) (going stands : Option Writing) (result : Result (Unit {0}) Fault) (fault : Fault) → result ≡ Err fault → (fault ≡ Faults.OutOfMemory → ⊥)
+    → IsStopped script old new before now fault → WritesUntil Faults.WriteFault going stands result → HasStopped going stands (Statuses.Fault Faults.WriteFault)
+stopped-writing script old new before now going stands result Faults.WriteFault is other stopped W = λ went. inr (W.stopped went is, refl)
+stopped-writing script old new before now going stands result Faults.OutOfMemory is other stopped W = absurd (other refl)
+stopped-writing script old new before now going stands result (Faults.Script line why) is other stopped W = absurd stopped
+stopped-writing script old new before now going stands result Faults.Usage is other stopped W = absurd stopped
+stopped-writing script old new before now going stands result (Faults.BadMedia which fault) is other stopped W = absurd stopped
+stopped-writing script old new before now going stands result Faults.ReadFault is other stopped W = absurd stopped
+stopped-writing script old new before now going stands result (Faults.Absent which) is other stopped W = absurd stopped
+stopped-writing script old new before now going stands result (Faults.Short which at size) is other stopped W = absurd stopped
+stopped-writing script old new before now going stands result (Faults.Units have need) is other stopped W = absurd stopped
+stopped-writing script old new before now going stands result (Faults.Packets why) is other stopped W = absurd stopped
+stopped-writing script old new before now going stands result (Faults.NotRun line why) is other stopped W = absurd stopped
 
 -- the first lines are there, and the line of want of memory was told behind them
 pub told-memory : (script : Script) (old mid new : Option (List ℕ)) (before now later : ℕ) (status : Status) → GotLines script old mid → now ≡ before → IsPrinted (Statuses.Fault Faults.OutOfMemory) (fault_line Faults.OutOfMemory) mid new now later status → HasTold script old new before later status

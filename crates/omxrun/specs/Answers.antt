@@ -1,5 +1,5 @@
 -- What a play by workers answers, by its files as they were seen before and after it.
-use Rattle.std.specs.Prelude.{ℕ, List, Option, Result, IfErr, IfOk}
+use Rattle.std.specs.Prelude.{ℕ, List, Option}
 use Rattle.play_forms.specs.Plans.{PlanValue}
 use Rattle.play_plan_laws.specs.Assemblies.{IsReady, PlayFiles}
 use Rattle.play_log.specs.Scenes.{HaveOwnNames}
@@ -8,7 +8,7 @@ use Rattle.play_files.specs.Seen.{FileSeen}
 use Rattle.play_course.specs.declared.player.RunFault.{RunFault}
 use Rattle.play_course.specs.Failing.{LeavesBehind}
 use Rattle.play_course.specs.Players.{AreFilesOf, IsFailed, IsPlayedWhole}
-use Rattle.play_course.specs.Running.{AreSameFiles, IsRunCause}
+use Rattle.play_course.specs.Running.{IsRunCause}
 
 -- The play was done whole: this is its log, of which the gates tell.
 pub record IsDone {G : Type 0} (counts : G → Option (ℕ → ℕ)) (workers : ℕ) (plan : PlanValue) (before after : List (Option FileSeen)) (text : List ℕ) (gates : List G) : Type 0 where
@@ -21,9 +21,3 @@ pub record IsBrokenOff (plan : PlanValue) (before after : List (Option FileSeen)
   pub failed : (given : PlayFiles) → IsReady plan given → AreFilesOf plan given before → IsFailed plan given before after
   pub cause : IsRunCause before after fault
   pub left : (given : PlayFiles) → IsReady plan given → AreFilesOf plan given before → LeavesBehind plan given before after fault
-
--- What it came to, with the gates that came back.
-pub record IsRun {G : Type 0} (counts : G → Option (ℕ → ℕ)) (workers : ℕ) (plan : PlanValue) (before after : List (Option FileSeen)) (ran : Result (List ℕ) RunFault) (gates : List G) : Type 0 where
-  pub same : AreSameFiles before after
-  pub done : IfOk ran (λ text. IsDone counts workers plan before after text gates)
-  pub broken_off : IfErr ran (IsBrokenOff plan before after)

@@ -2,6 +2,7 @@ pub mod Absences
 pub mod Asked
 pub mod Clocked
 pub mod Commands
+pub mod Ended
 pub mod Faults
 pub mod Making
 pub mod Names

@@ -1,8 +1,10 @@
 -- What is printed of an outcome, and what the status says.
-use Rattle.std.specs.Prelude.{◌≡◌, ◌⊎◌, ℕ, List, Option, Result, Ok, Err}
+use Rattle.std.specs.Prelude.{◌≡◌, ◌⊎◌, ℕ, List, Option, Some, Result, Ok, Err}
 use Rattle.std.specs.Io.KnownBytes.{append_known}
 use Rattle.outside_io.specs.Causes.{Rose}
 use Rattle.outside_io.specs.Moves.{AppendsFront}
+use Rattle.outside_io.specs.declared.writing.Writing.{Writing}
+use Rattle.outside_io.specs.declared.writing.Writing.TheVariants.{Going, Stopped}
 use Rattle.omx_types.specs.declared.fault.Fault.{Fault}
 use Rattle.omx_types.specs.declared.fault.Fault.TheVariants.{WriteFault}
 use Rattle.omx_types.specs.declared.fault.Status.{Status}
@@ -34,3 +36,7 @@ IsPrinted wanted text old new before now status =
 -- the outcome was printed
 abbrev pub IsReported : Result Done Fault → Option (List ℕ) → Option (List ℕ) → ℕ → ℕ → Status → Type 0
 IsReported outcome old new before now status = IsPrinted (status_of outcome) (outcome_text outcome) old new before now status
+
+-- where no write to the sink had failed, none failed since, or the last one did that was tried, and the status says so
+abbrev pub HasStopped : Option Writing → Option Writing → Status → Type 0
+HasStopped old new status = old ≡ Some Going → (new ≡ Some Going) ⊎ ((new ≡ Some Stopped) × (status ≡ Statuses.Fault WriteFault))

@@ -3,7 +3,7 @@
 ghost use Rattle.std.specs.Prelude.{◌≡◌, ◌≤◌, List, ℕ, Result};
 ghost use Rattle.outside_io.specs.Files.{GoesOn};
 ghost use Rattle.omxrun.specs.Clocked.{RunsTo, IsClockOutcome};
-ghost use Rattle.omxrun.specs.Reports.{IsPrinted, status_of};
+ghost use Rattle.omxrun.specs.Reports.{HasStopped, IsPrinted, status_of};
 
 use crate::print::report;
 use crate::script::SCRIPT_BYTES;
@@ -22,6 +22,7 @@ pub fn clock_file<M: Media, O: Sink>(
 ) -> Status
     ensures goes_on { GoesOn (M.outside media.old) (M.outside media.new) }
     ensures later { O.faults out.old ≤ O.faults out.new }
+    ensures stopped { HasStopped (O.writing out.old) (O.writing out.new) result }
     ensures clocked { (outcome : Result (Unit {0}) Fault) × (text : List ℕ) × IsClockOutcome name.now (M.outside media.old) (M.outside media.new) outcome text
         × IsPrinted (status_of outcome) text (O.told out.old) (O.told out.new) (O.faults out.old) (O.faults out.new) result }
 {
@@ -34,6 +35,7 @@ pub fn clock_file<M: Media, O: Sink>(
 /// Runs a clock's script. Once a write to `out` has failed, nothing more is written to it.
 fn clock_script<O: Sink>(bytes: &[u8], out: &mut O) -> Status
     ensures later { O.faults out.old ≤ O.faults out.new }
+    ensures stopped { HasStopped (O.writing out.old) (O.writing out.new) result }
     ensures clocked { (outcome : Result (Unit {0}) Fault) × (text : List ℕ) × RunsTo bytes.now outcome text
         × IsPrinted (status_of outcome) text (O.told out.old) (O.told out.new) (O.faults out.old) (O.faults out.new) result }
 {

@@ -6,6 +6,7 @@ ghost use Rattle.script_lang.specs.PlayScripts.{IsPlayScript};
 ghost use Rattle.play_course.specs.Outcomes.{IsDone, IsUndone};
 ghost use Rattle.omxrun.specs.Absences.{AreAbsencesTold};
 ghost use Rattle.omxrun.specs.Plays.{HasPlayReason, IsPlayCourse, IsPlayOutcome, IsPlayReported, WasRead};
+ghost use Rattle.omxrun.specs.Reports.{HasStopped};
 
 use crate::print::{print, report};
 use crate::script::SCRIPT_BYTES;
@@ -36,6 +37,7 @@ pub fn play_file<R: Threads + Wait + Sync, M: Media, O: Sink>(
     requires few { length gates.items ≤ 8 }
     ensures goes_on { GoesOn (M.outside media.old) (M.outside media.new) }
     ensures later { O.faults out.old ≤ O.faults out.new }
+    ensures stopped { HasStopped (O.writing out.old) (O.writing out.new) result }
     ensures played { (outcome : Result (List ℕ) Fault) × IsPlayOutcome (length gates.items) name.now log.now (M.outside media.old) (M.outside media.new) outcome
         × IsPlayReported outcome (O.told out.old) (O.told out.new) (O.faults out.old) (O.faults out.new) result }
 {
@@ -78,6 +80,7 @@ fn play_read<R: Threads + Wait + Sync, M: Media, O: Sink>(
     requires script { (name : List ℕ) × (text : List ℕ) × IsPlayScript name log.now text script.now }
     ensures goes_on { GoesOn (M.outside media.old) (M.outside media.new) }
     ensures later { O.faults out.old ≤ O.faults out.new }
+    ensures stopped { HasStopped (O.writing out.old) (O.writing out.new) result }
     ensures played { (outcome : Result (List ℕ) Fault) × IsPlayCourse (length gates.items) script.now log.now (M.outside media.old) (M.outside media.new) outcome
         × IsPlayReported outcome (O.told out.old) (O.told out.new) (O.faults out.old) (O.faults out.new) result }
 {

@@ -1,7 +1,7 @@
 //! Texts and the outcomes of commands are printed, with the status that follows from the outcome and the writes.
 
 ghost use Rattle.std.specs.Prelude.{◌≡◌, ◌≤◌, Result};
-ghost use Rattle.omxrun.specs.Reports.{IsPrinted, IsReported, outcome_text, status_of as status_of_outcome};
+ghost use Rattle.omxrun.specs.Reports.{HasStopped, IsPrinted, IsReported, outcome_text, status_of as status_of_outcome};
 
 use crate::done::Done;
 use crate::packed_texts::{text_of_packed, text_of_unpacked};
@@ -13,6 +13,7 @@ use outside_io::{Sink, write_all};
 /// Prints what a command came to. Where a write to `out` is counted as failed, that is what it came to.
 pub fn report<O: Sink>(outcome: Result<Done, Fault>, out: &mut O) -> Status
     ensures later { O.faults out.old ≤ O.faults out.new }
+    ensures stopped { HasStopped (O.writing out.old) (O.writing out.new) result }
     ensures reported { IsReported outcome (O.told out.old) (O.told out.new) (O.faults out.old) (O.faults out.new) result }
 {
     print(&text_of(outcome), status_of(outcome), out)
@@ -21,6 +22,7 @@ pub fn report<O: Sink>(outcome: Result<Done, Fault>, out: &mut O) -> Status
 /// Prints a text, which has this status where it is printed whole.
 pub fn print<O: Sink>(text: &Text, wanted: Status, out: &mut O) -> Status
     ensures later { O.faults out.old ≤ O.faults out.new }
+    ensures stopped { HasStopped (O.writing out.old) (O.writing out.new) result }
     ensures printed { IsPrinted wanted text.now (O.told out.old) (O.told out.new) (O.faults out.old) (O.faults out.new) result }
 {
     let before = out.faults();

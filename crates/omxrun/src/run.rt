@@ -15,7 +15,7 @@ ghost use Rattle.omxrun.specs.Making.{IsMakeOutcome};
 ghost use Rattle.rtp_parts.specs.Answers.{StoppedPacking};
 ghost use Rattle.omxrun.specs.Packets.{PacksTo, UnpacksTo, StoppedUnpacking};
 ghost use Rattle.omxrun.specs.Plays.{IsPlayOutcome, IsPlayReported};
-ghost use Rattle.omxrun.specs.Reports.{IsPrinted, IsReported, status_of};
+ghost use Rattle.omxrun.specs.Reports.{HasStopped, IsPrinted, IsReported, status_of};
 ghost use Rattle.omxrun.specs.Traced.{IsTraceOutcome};
 ghost use Rattle.omxrun.specs.Turned.{Written, IsTurnOutcome, CanTurn};
 ghost use Rattle.omxrun.specs.Words.{Asked, to_trace, to_play, to_make, to_clock, to_pack, to_unpack, AreWordsOf, AreNoForm, IsAllowed, asked_by};
@@ -48,10 +48,15 @@ pub fn run_words<R: Threads + Wait + Sync, M: Media, O: Sink>(
 ) -> Status
     ensures goes_on { GoesOn (M.outside media.old) (M.outside media.new) }
     ensures later { O.faults out.old ≤ O.faults out.new }
+    ensures stopped { HasStopped (O.writing out.old) (O.writing out.new) result }
 
     // Words of no form.
     ensures usage { AreNoForm (map string_bytes words.now) → (M.outside media.new ≡ M.outside media.old)
         × IsReported (Err Fault.Usage) (O.told out.old) (O.told out.new) (O.faults out.old) (O.faults out.new) result }
+
+    // What is run is what the words ask for.
+    ensures run { (asked : Asked) → AreWordsOf (map string_bytes words.now) asked →
+        HasRun asked (M.outside media.old) (M.outside media.new) (O.told out.old) (O.told out.new) (O.faults out.old) (O.faults out.new) result }
 
     // A trace: what it came to and the text that this asks for, and that the text is printed.
     ensures trace { (script : List ℕ) → AreWordsOf (map string_bytes words.now) (to_trace script) → (outcome : Result (Unit {0}) Fault) × (text : List ℕ)
@@ -140,6 +145,7 @@ fn run_command<R: Threads + Wait + Sync, M: Media, O: Sink>(
     requires { IsAllowed (asked_by command) }
     ensures goes_on { GoesOn (M.outside media.old) (M.outside media.new) }
     ensures later { O.faults out.old ≤ O.faults out.new }
+    ensures stopped { HasStopped (O.writing out.old) (O.writing out.new) result }
     ensures run { HasRun (asked_by command.entry) (M.outside media.old) (M.outside media.new) (O.told out.old) (O.told out.new) (O.faults out.old) (O.faults out.new) result }
 {
     match command {
@@ -176,6 +182,7 @@ fn play_with<R: Threads + Wait + Sync, M: Media, O: Sink>(
     requires { workers ≤ 8 }
     ensures goes_on { GoesOn (M.outside media.old) (M.outside media.new) }
     ensures later { O.faults out.old ≤ O.faults out.new }
+    ensures stopped { HasStopped (O.writing out.old) (O.writing out.new) result }
     ensures played { (outcome : Result (List ℕ) Fault) × IsPlayOutcome workers script.now log.now (M.outside media.old) (M.outside media.new) outcome
         × IsPlayReported outcome (O.told out.old) (O.told out.new) (O.faults out.old) (O.faults out.new) result }
 {

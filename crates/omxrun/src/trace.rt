@@ -5,7 +5,7 @@ ghost use Rattle.outside_io.specs.Files.{CountsStand, GoesOn};
 ghost use Rattle.script_lang.specs.Scripts.{IsOfCommand};
 ghost use Rattle.omxrun.specs.Absences.{AreAbsencesTold};
 ghost use Rattle.omxrun.specs.Faults.{fault_of_script, fault_of_reading};
-ghost use Rattle.omxrun.specs.Reports.{IsPrinted, status_of};
+ghost use Rattle.omxrun.specs.Reports.{HasStopped, IsPrinted, status_of};
 ghost use Rattle.omxrun.specs.Traced.{IsScriptIn, HasScriptReason, TracesTo, IsTraceOutcome};
 
 use crate::print::report;
@@ -25,6 +25,7 @@ pub fn trace_file<M: Media, O: Sink>(
 ) -> Status
     ensures goes_on { GoesOn (M.outside media.old) (M.outside media.new) }
     ensures later { O.faults out.old ≤ O.faults out.new }
+    ensures stopped { HasStopped (O.writing out.old) (O.writing out.new) result }
     ensures traced { (outcome : Result (Unit {0}) Fault) × (text : List ℕ) × IsTraceOutcome name.now (M.outside media.old) (M.outside media.new) outcome text
         × IsPrinted (status_of outcome) text (O.told out.old) (O.told out.new) (O.faults out.old) (O.faults out.new) result }
 {
@@ -90,6 +91,7 @@ pub fn refused_fault(error: ScriptError) -> Fault
 fn trace_script<O: Sink>(alloc: Global, script: &Script, out: &mut O) -> Status
     requires { IsOfCommand false script.now }
     ensures later { O.faults out.old ≤ O.faults out.new }
+    ensures stopped { HasStopped (O.writing out.old) (O.writing out.new) result }
     ensures traced { (outcome : Result (Unit {0}) Fault) × (text : List ℕ) × TracesTo script.now outcome text
         × IsPrinted (status_of outcome) text (O.told out.old) (O.told out.new) (O.faults out.old) (O.faults out.new) result }
 {

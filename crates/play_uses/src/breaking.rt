@@ -1,4 +1,4 @@
-//! A source whose read fails, or which ends early, behind its head; a sink without room.
+//! A source that isn't opened, whose read fails, or which ends early, behind its head; a sink without room, or whose closing fails.
 
 ghost use Rattle.std.specs.Prelude.{◌≤◌};
 
@@ -67,6 +67,35 @@ fn sink_has_no_room(rt: HostRuntime) -> Result<(), Failure> {
         Some(Err(Fault::WriteFault))
     );
     assert_eq!(rt; media.file("out"), Some(b"".as_slice()));
+    assert!(rt; media.file("log").is_none());
+    Ok(())
+}
+
+#[test]
+fn source_fails_to_open(rt: HostRuntime) -> Result<(), Failure> {
+    let alloc = rt.alloc();
+    let fails = vec![in alloc; Fail::new(String::from_str(alloc, "in")?, FailKind::OpenSource, 1)]?;
+    let mut media = media_of(alloc, fails, 4096)?;
+    assert_eq!(rt;
+        played(alloc, &mut media, SCRIPT),
+        Some(Err(Fault::ReadFault))
+    );
+    assert!(rt; media.file("out").is_none());
+    assert!(rt; media.file("log").is_none());
+    Ok(())
+}
+
+/// The first half of its bytes stays.
+#[test]
+fn sink_fails_to_close(rt: HostRuntime) -> Result<(), Failure> {
+    let alloc = rt.alloc();
+    let fails = vec![in alloc; Fail::new(String::from_str(alloc, "out")?, FailKind::Close, 1)]?;
+    let mut media = media_of(alloc, fails, 4096)?;
+    assert_eq!(rt;
+        played(alloc, &mut media, SCRIPT),
+        Some(Err(Fault::WriteFault))
+    );
+    assert_eq!(rt; media.file("out"), Some(&THREE_SAMPLES[..25]));
     assert!(rt; media.file("log").is_none());
     Ok(())
 }

@@ -37,8 +37,8 @@ impl<S: Source, K: Sink, C: Client, G: Gate> Worker<S, K, C, G> {
         tended | stepped
     }
 
-    /// A visit at the component of the place, unless nothing happened there since the last visit, at which nothing could be done. Whether
-    /// anything was done.
+    /// A visit at the component of the place, unless another worker is there, or nothing happened since the last visit, at which nothing
+    /// could be done. Whether anything was done.
     #[tactic(auto, using(crate::proofs::Keeping::numbered_at))]
     pub(crate) fn visit<R: Wait>(
         &mut self,
@@ -64,7 +64,15 @@ impl<S: Source, K: Sink, C: Client, G: Gate> Worker<S, K, C, G> {
         if !all && bell == heard {
             return false;
         }
+        // Two workers at one component would find little to do.
+        let came = signs.enter(place);
+        if !all && !came {
+            return false;
+        }
         let did = self.attend(rt, board, seats, signs, seat, all);
+        if came {
+            signs.leave(place);
+        }
         if did {
             signs.ring(place, near);
         } else {

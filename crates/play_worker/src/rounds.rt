@@ -1,6 +1,6 @@
 //! A worker's rounds over the components.
 
-ghost use Rattle.std.specs.Prelude.{◌≡◌, ◌≤◌, IfOk, length, true};
+ghost use Rattle.std.specs.Prelude.{◌≡◌, ◌<◌, ◌≤◌, IfOk, length, true};
 ghost use Rattle.graph_acts.specs.Plain.{sight_of};
 ghost use Rattle.play_worker.specs.Ending.{HasSeenEnd};
 ghost use Rattle.play_worker.specs.Workers.{IsWorker, AreNumbered};
@@ -17,9 +17,17 @@ use work_signs::{Seat, Signs};
 /// How often a worker that found nothing looks at the signs before it asks anew.
 const LOOKS: u32 = 1000;
 
+/// The place that comes so many behind the first, in a round over so many places.
+fn place_from(first: u8, step: usize, places: usize) -> usize
+    requires { (step < places) × (places ≤ 32) }
+    ensures { result < places }
+{
+    (usize::from(first) + step) % places
+}
+
 impl<S: Source, K: Sink, C: Client, G: Gate> Worker<S, K, C, G> {
-    /// A round over the components: over all, or over those at which something happened since nothing could be done there. Whether anything
-    /// was done.
+    /// A round over the components, which each worker begins at another: over all, or over those at which something happened since nothing
+    /// could be done there. Whether anything was done.
     fn round<R: Wait>(
         &mut self,
         rt: &R,
@@ -34,8 +42,10 @@ impl<S: Source, K: Sink, C: Client, G: Gate> Worker<S, K, C, G> {
         ensures worker { IsWorker G.counts (sight_of C.Client S.Source K.Sink) board.now seats.now self.new }
         ensures number { self.new.book.number ≡ self.old.book.number }
     {
+        let first = self.book.number();
         let mut did = false;
-        for place in 0..seats.len() {
+        for step in 0..seats.len() {
+            let place = place_from(first, step, seats.len());
             let visited = self.visit(rt, board, seats, signs, place, all);
             did = did | visited;
         }

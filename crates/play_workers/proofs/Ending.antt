@@ -34,7 +34,7 @@ use Rattle.play_worker.specs.Requests.{is_request_plain}
 use Rattle.conducting_thread.specs.declared.conducting.ConductingPass.{ConductingPass}
 use Rattle.conducting_thread.specs.Asking.{IsStepless}
 use Rattle.conducting_thread.specs.Passes.{HasConducted, HasHalted, IsAtEnd, IsConductingPass}
-use Rattle.conducting_thread.specs.Seating.{handles_of}
+use Rattle.work_signs.specs.Seats.{handles_of}
 use Rattle.play_workers.specs.declared.ran.Ran.{Ran}
 use Rattle.play_workers.specs.Meetings.{calls_of_all, listed_calls}
 use Rattle.play_workers.specs.Wholes.{AreWorks, Gathers, HasCounted, IsPageOf, Leaves, Played}

@@ -27,7 +27,7 @@ use Rattle.play_worker.specs.Counts.{Counts}
 use Rattle.play_worker.specs.Failing.{TellsWorst}
 use Rattle.play_worker.specs.Requests.{is_request_plain}
 use Rattle.conducting_thread.specs.Passes.{HasConducted, HasHalted, IsAtEnd}
-use Rattle.conducting_thread.specs.Seating.{handles_of}
+use Rattle.work_signs.specs.Seats.{handles_of}
 use Rattle.play_workers.specs.declared.hand.Hand.{Hand}
 use Rattle.play_workers.specs.declared.ran.Ran.{Ran}
 use Rattle.play_workers.specs.Hands.{AreWorkers}

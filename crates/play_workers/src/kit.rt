@@ -1,6 +1,6 @@
 //! What a pass of a play needs memory for.
 
-ghost use Rattle.std.specs.Prelude.{◌≡◌, ◌≤◌, All, length, IfSome};
+ghost use Rattle.std.specs.Prelude.{◌≡◌, All, length, IfSome};
 ghost use Rattle.play_workers.specs.Rooms.{IsNewKit};
 
 use board::ActRow;

@@ -1,5 +1,5 @@
 -- A line whose act takes nothing of the replay's: it is answered, or it isn't.
-use Rattle.std.proofs.Common.{◌≡◌, ℕ, List, [], Option, Some, MatchOption, length, take, sym, subst}
+use Rattle.std.proofs.Common.{◌≡◌, inl, ℕ, List, [], Option, Some, MatchOption, length, take, sym, subst, Bool}
 use Rattle.std.proofs.Common.{find}
 use Rattle.omx_types.specs.declared.handle.Handle.{Handle}
 use Rattle.il_machine.specs.Whole.{Stands}
@@ -7,6 +7,8 @@ use Rattle.il_machine.specs.World.{Stream, World, is_stream_of}
 use Rattle.act_text.specs.declared.text.ActText.{ActText}
 use Rattle.play_forms.specs.Plans.{PlanValue}
 use Rattle.play_log.specs.Lines.{LogLine}
+use Rattle.play_log.specs.Saying.{SaysAct}
+use Rattle.play_log.specs.Scenes.{Scene}
 use Rattle.audio_parts.specs.Shown.{ShownPart}
 use Rattle.graph_core.specs.Clients.{IsOut}
 use Rattle.il_flow.specs.Works.{WorkOf}
@@ -18,6 +20,7 @@ use Rattle.graph_acts.specs.Holding.{IsGone}
 use Rattle.graph_acts.specs.Plain.{Sight}
 use Rattle.audit_forms.specs.Audited.{Answers, Case, Moment}
 use Rattle.run_audit.specs.Answering.{IsAnswered, IsMomentOf, IsReplyOf, IsUnanswered}
+use Rattle.run_audit.specs.Leading.{IsMade, IsSince}
 use Rattle.run_audit.specs.Replaying.{AreFronts, IsStanding}
 use Rattle.run_audit.proofs.Plain.{meets_plain, so_plain}
 use Rattle.run_audit.proofs.Quiet.{plain_none}
@@ -53,16 +56,28 @@ module _ {S C : Type 0} (see : Sight S (ComparingValue S) C) (old new : Shown S 
 
   -- what is held then is what the act leaves out
   abbrev pub Lifts : Type 0
-  Lifts = (x : Case) (w v : World) → IsStanding see old plan handles works clients x w → IsGoing see old new w v R.act reply → IsStanding see new plan handles works' clients' x v
+  Lifts = (tells : Bool) (x : Case) (w v : World) → IsStanding see tells old plan handles works clients x w → IsGoing see old new w v R.act reply → IsStanding see tells new plan handles works' clients' x v
 
-  pub stands_on : Lifts → (x : Case) (w : World) → IsStanding see old plan handles works clients x w → (v : World) × IsStanding see new plan handles works' clients' x v
-  stands_on L x w I = (after w I.stands, L x w (after w I.stands) I (go w I.stands))
+  -- the act is made
+  made_on : (tells : Bool) (x : Case) (w : World) (I : IsStanding see tells old plan handles works clients x w) → IsMade x said.act w (after w I.stands)
+  made_on tells x w I =
+      let q = u see old new plan.parts handles said reply R in
+      record {
+        act = a see old new plan.parts handles said reply R;
+        reply = r see old new plan.parts handles said reply R;
+        says = subst (λ (s : Scene). SaysAct s said.act (a see old new plan.parts handles said reply R)) (sym I.scene) (R.says q);
+        meets = meets_plain see q w R.act R.plain;
+        step = (stepped see old new plan.parts handles said reply R w I.stands).2;
+      }
 
-  module _ (x : Case) (at : Moment) (line : LogLine) (is : line.said ≡ said) (I : IsStanding see old plan handles works clients x at.world) where
+  pub stands_on : Lifts → (tells : Bool) (x : Case) (w : World) → IsStanding see tells old plan handles works clients x w → (v : World) × IsStanding see tells new plan handles works' clients' x v × IsSince x said.act w v
+  stands_on L tells x w I = (after w I.stands, L tells x w (after w I.stands) I (go w I.stands), inl (made_on tells x w I))
+
+  module _ (tells : Bool) (x : Case) (at : Moment) (line : LogLine) (is : line.said ≡ said) (I : IsStanding see tells old plan handles works clients x at.world) where
     its : IsMomentOf see old plan.parts handles x at
     its = record { scene = I.scene; stands = I.stands }
 
-    pub passes_on : Lifts → IsAnswered see old new plan.parts handles said → AreFronts x.sinks at.world → (v : World) × Answers x at line v × IsStanding see new plan handles works' clients' x v × AreFronts x.sinks v
+    pub passes_on : Lifts → IsAnswered see old new plan.parts handles said → AreFronts x.sinks at.world → (v : World) × Answers x at line v × IsStanding see tells new plan handles works' clients' x v × AreFronts x.sinks v
     unfolding go
     passes_on L A F =
         let y = A x at line is its in
@@ -72,7 +87,7 @@ module _ {S C : Type 0} (see : Sight S (ComparingValue S) C) (old new : Shown S 
         let P = plain_none see G.unsaid R.act R.plain in (
           v,
           subst (Answers x at line) e y.2,
-          L x at.world v I G,
+          L tells x at.world v I G,
           fronts_stay x.sinks at.world v (streams_stay at.world (a see old new plan.parts handles said reply R) (r see old new plan.parts handles said reply R) v I.sound P.streams G.met G.step) F,
         )
 

@@ -1,8 +1,10 @@
 -- A line by which a work comes back.
-use Rattle.std.proofs.Common.{◌≡◌, ◌≢◌, inl, inr, ℕ, false, List, [], Option, Some, None, MatchOption, IsSomeAnd, IfSome, is_some, option_and_then, length, take, nat_eq, slice_get, slice_set, refl, sym, ◌∙◌, ap, subst, eq-eqb, length-set}
+use Rattle.std.proofs.Common.{◌≡◌, ◌≢◌, inl, inr, ℕ, true, false, IsTrue, IsFalse, List, [], Option, Some, None, MatchOption, IsSomeAnd, IfSome, is_some, option_and_then, length, take, nat_eq, slice_get, slice_set, refl, sym, ◌∙◌, ap, subst, eq-eqb, length-set, Bool}
 use Rattle.std.proofs.lemmas.Bool.{cases_eq}
 use Rattle.std.specs.Io.KnownBytes.{append_known}
 use Rattle.omx_types.specs.declared.handle.Handle.{Handle}
+use Rattle.outside_io.specs.declared.source.Source.{Ghosts as SourceGhosts}
+use Rattle.note_queues.specs.declared.client.Client.{Ghosts as ClientGhosts}
 use Rattle.il_machine.specs.Acts as acts
 use Rattle.il_machine.specs.World.{Component, Stream, World, component_numbered, stream_of}
 use Rattle.machine_laws.proofs.Keys.{is_there, there_is}
@@ -37,6 +39,7 @@ use Rattle.graph_acts.proofs.Comeback.{comes_back, nothing_unsaid}
 use Rattle.audit_forms.specs.Audited.{Answers, Case, IsWrittenIn, Moment}
 use Rattle.run_audit.specs.Replaying.{AreFronts, IsComparedWith, IsStanding}
 use Rattle.run_audit.specs.Returning.{HasOther, IsReturned}
+use Rattle.run_audit.specs.Seeing.{replay_sight}
 use Rattle.run_audit.specs.declared.returning.Back.{Back}
 use Rattle.run_audit.proofs.Compared.{compared_back, compared_still}
 use Rattle.run_audit.proofs.Held.{work_goes}
@@ -49,6 +52,13 @@ use Rattle.run_audit.proofs.Streams.{GoesOn, streams_go}
 pub record KnowsCompared {S C : Type 0} (see : Sight S (ComparingValue S) C) : Type 0 where
   pub named : (snk : ComparingValue S) → see.writes.name snk ≡ known_by (see.reads.told snk.src) (see.reads.ends snk.src)
   pub tells : (snk : ComparingValue S) → see.writes.told snk ≡ told_by (see.reads.told snk.src) snk
+
+pub knows_compared : {S C : Type 0} (client : ClientGhosts C) (reads : SourceGhosts S) → KnowsCompared (replay_sight client reads)
+knows_compared client reads = record { named = λ snk. refl; tells = λ snk. refl }
+
+true_unless : (b : Bool) → (IsFalse b → ⊥) → IsTrue b
+true_unless true n = refl
+true_unless false n = absurd (n refl)
 
 not_none : {X : Type 0} (o : Option X) → o ≢ None → (y : X) × (o ≡ Some y)
 not_none None n = absurd (n refl)
@@ -74,7 +84,7 @@ module _ {S : Type 0} where
 module _ {S C : Type 0} where
   module _ (see : Sight S (ComparingValue S) C) (Q : KnowsCompared see) (old new : Shown S (ComparingValue S) C) (plan : PlanValue) (handles : List Handle) (works : List (Option (WorkOf (ShownPart S (ComparingValue S))))) (clients : List (Option C))
       (place : ℕ) (work : WorkOf (ShownPart S (ComparingValue S))) (held : slice_get works place ≡ Some (Some work)) (reply : TextReply) (back : Back) (B : IsReturned see see.reads.told old new work reply back)
-      (out : (h : Handle) → IsGone new h → IsOut h (graphs.look_of new)) (x : Case) (w : World) (I : IsStanding see old plan handles works clients x w) where
+      (out : (h : Handle) → IsGone new h → IsOut h (graphs.look_of new)) (tells : Bool) (x : Case) (w : World) (I : IsStanding see tells old plan handles works clients x w) where
     abbrev pub H : IsWorkIn w (out_of work)
     H = ((I.works_are).out place work held).1
 
@@ -100,22 +110,22 @@ module _ {S C : Type 0} where
           out = out;
         }
 
-    compared : IsComparedWith see.reads.told (x.sinks place) ((B.done).part).file
-    compared = compared_still see.reads.told see.reads.ends see.writes.name see.writes.faults (SourceStays see.reads.size see.reads.told see.reads.ends see.reads.offset see.reads.faults ((B.done).part).failed) Q.named (x.sinks place)
-        (work.part).file ((B.done).part).file ((B.run).object).1 ((I.sinks).outside place work held)
+    compared : IsTrue tells → IsComparedWith see.reads.told (x.sinks place) ((B.done).part).file
+    compared t = compared_still see.reads.told see.reads.ends see.writes.name see.writes.faults (SourceStays see.reads.size see.reads.told see.reads.ends see.reads.offset see.reads.faults ((B.done).part).failed) Q.named (x.sinks place)
+        (work.part).file ((B.done).part).file ((B.run).object).1 ((I.sinks t).outside place work held)
 
-    files_then : (n : ℕ) → files_in new n ≡ with_at nat_eq (Some (place, ((B.done).part).file)) (files_in old) n
+    pub files_then : (n : ℕ) → files_in new n ≡ with_at nat_eq (Some (place, ((B.done).part).file)) (files_in old) n
     files_then n = ((B.moved).objects).files n ∙ ap (λ (k : ℕ). with_at nat_eq (Some (k, ((B.done).part).file)) (files_in old) n) number
 
-    pub returned_on : IsStanding see new plan handles (slice_set works place None) clients x end
+    pub returned_on : IsStanding see tells new plan handles (slice_set works place None) clients x end
     returned_on =
         let act = asks.Finish B.done in
         let same : work.component.generation ≡ (B.done).component.generation = sym (ap (λ (h : Handle). h.generation) (B.run).component) in
-        standing see old new plan handles works clients x w end I act replies.Finish going (slice_set works place None) clients (length-set works place None) refl
-        (work_goes handles (apart see old new plan handles works clients x w end I) works w end I.works_are place work held
-        (subst (λ (n : ℕ). MovesWorks {S = S} {K = ComparingValue S} (Some n) None w end) (sym same) (moves_works see old new plan handles works clients x w end I act replies.Finish going)))
-        (same_objects see old new plan handles works clients x w end I act replies.Finish going refl refl)
-        (compared_back see.reads.told x.sinks works old new I.sinks place ((B.done).part).file compared files_then)
+        standing see old new plan handles works clients tells x w end I act replies.Finish going (slice_set works place None) clients (length-set works place None) refl
+        (work_goes handles (apart see old new plan handles works clients tells x w end I) works w end I.works_are place work held
+        (subst (λ (n : ℕ). MovesWorks {S = S} {K = ComparingValue S} (Some n) None w end) (sym same) (moves_works see old new plan handles works clients tells x w end I act replies.Finish going)))
+        (same_objects see old new plan handles works clients tells x w end I act replies.Finish going refl refl)
+        (λ t. compared_back see.reads.told x.sinks works old new (I.sinks t) place ((B.done).part).file (compared t) files_then)
 
     -- ---- what was written then
 
@@ -141,6 +151,10 @@ module _ {S C : Type 0} where
         let file : files_in new place ≡ Some (files.To snk f.0) = files_then place ∙ (own_file place ((B.done).part).file (files_in old) ∙ f.1) in
         sym (Q.tells snk) ∙ (T place f.0 c.0 t snk c.1 c.2 at file ∙ ap (λ (k : Option (List ℕ)). append_known k t.written) known)
 
+    -- a sink's file is known where the media tells
+    tells_so : (text : List ℕ) → x.sinks place ≡ Some text → IsTrue tells
+    tells_so text e = true_unless tells (λ f. (let none : None ≡ Some text = sym (I.untold f place) ∙ e in cc))
+
     pub fronts_then : TellWritten see.writes.told new end → IfSome (sink_in (B.done).part) (λ snk. snk.other ≡ []) → AreFronts x.sinks w → AreFronts x.sinks end
     fronts_then T none F j text e =
         let s = there_is (stream_of j w) _ (F j text e) in
@@ -152,7 +166,7 @@ module _ {S C : Type 0} where
             | inl q ↦
                 let at : stream_of place end ≡ Some t.0 = ap (λ (k : ℕ). stream_of k end) (sym q) ∙ t.1 in
                 let its : x.sinks place ≡ Some text = ap x.sinks (sym q) ∙ e in
-                let k = some_written (sink_in (B.done).part) see.reads.told text (subst (λ (o : Option (List ℕ)). IsComparedWith see.reads.told o ((B.done).part).file) its compared) in
+                let k = some_written (sink_in (B.done).part) see.reads.told text (subst (λ (o : Option (List ℕ)). IsComparedWith see.reads.told o ((B.done).part).file) its (compared (tells_so text its))) in
                 let same : (k.0).other ≡ [] = subst (λ (o : Option (ComparingValue S)). IfSome o (λ snk. snk.other ≡ [])) k.1 none in
                 is_front (see.reads.told (k.0).src) text k.2 k.0 (t.0).written (tells_then T k.0 k.1 t.0 at known) same
             | inr n ↦
@@ -161,10 +175,10 @@ module _ {S C : Type 0} where
           ],
         )
 
-    pub other_then : TellWritten see.writes.told new end → IsSomeAnd (sink_in (B.done).part) (HasOther see.reads.told) → AreFronts x.sinks w → IsWrittenIn x end → ⊥
-    other_then T differs F W =
+    pub other_then : IsTrue tells → TellWritten see.writes.told new end → IsSomeAnd (sink_in (B.done).part) (HasOther see.reads.told) → AreFronts x.sinks w → IsWrittenIn x end → ⊥
+    other_then told T differs F W =
         let k = some_there (sink_in (B.done).part) (HasOther see.reads.told) differs in
-        let c = subst (λ (o : Option (ComparingValue S)). MatchOption o (x.sinks place ≡ None) (λ snk. (x.sinks place ≢ None) × (see.reads.told snk.src ≡ x.sinks place))) k.1 compared in
+        let c = subst (λ (o : Option (ComparingValue S)). MatchOption o (x.sinks place ≡ None) (λ snk. (x.sinks place ≢ None) × (see.reads.told snk.src ≡ x.sinks place))) k.1 (compared told) in
         let text = not_none (x.sinks place) c.0 in
         let s = there_is (stream_of place w) _ (F place text.0 text.1) in
         let t = its_stream place s.0 s.1 in

@@ -1,5 +1,5 @@
 -- A line by which a client object goes back.
-use Rattle.std.proofs.Common.{◌≡◌, ℕ, List, Option, Some, None, slice_get, slice_set, refl, sym, ◌∙◌, ap, subst}
+use Rattle.std.proofs.Common.{◌≡◌, ℕ, List, Option, Some, None, slice_get, slice_set, refl, sym, ◌∙◌, ap, subst, Bool}
 use Rattle.omx_types.specs.declared.handle.Handle.{Handle}
 use Rattle.il_machine.specs.declared.answer.Progress.{Progress}
 use Rattle.il_machine.specs.Acts as acts
@@ -41,7 +41,7 @@ done_said s said w a h p r v e step x = absurd (subst (λ b. Step w b r v) e ste
 
 module _ {S C : Type 0} (see : Sight S (ComparingValue S) C) (old new : Shown S (ComparingValue S) C) (plan : PlanValue) (handles : List Handle) (works : List (Option (WorkOf (ShownPart S (ComparingValue S))))) (clients : List (Option C))
     (place : ℕ) (h : Handle) (its : slice_get handles place ≡ Some h) (client : C) (held : slice_get clients place ≡ Some (Some client)) (moved : Moved see (asks.EndNote h client) replies.EndNote old new)
-    (was_out : (k : Handle) → IsGone old k → IsOut k (graphs.look_of old)) (out : (k : Handle) → IsGone new k → IsOut k (graphs.look_of new)) (x : Case) (w : World) (I : IsStanding see old plan handles works clients x w) where
+    (was_out : (k : Handle) → IsGone old k → IsOut k (graphs.look_of old)) (out : (k : Handle) → IsGone new k → IsOut k (graphs.look_of new)) (tells : Bool) (x : Case) (w : World) (I : IsStanding see tells old plan handles works clients x w) where
   pub held_so : IsObjectOf see old w h client
   held_so =
       let y = (I.objects).out place client held in
@@ -68,8 +68,8 @@ module _ {S C : Type 0} (see : Sight S (ComparingValue S) C) (old new : Shown S 
     out = out;
   }
 
-  pub given_back : IsStanding see new plan handles works (slice_set clients place None) x stepped.0
-  given_back = ended_on see old new plan handles works clients x w stepped.0 I place h its client held going
+  pub given_back : IsStanding see tells new plan handles works (slice_set clients place None) x stepped.0
+  given_back = ended_on see old new plan handles works clients tells x w stepped.0 I place h its client held going
 
   pub given_fronts : AreFronts x.sinks w → AreFronts x.sinks stepped.0
   given_fronts F = fronts_stay x.sinks w stepped.0 (streams_stay w (acts.EndNote h (see.progress client)) acts.Ended stepped.0 I.sound tt met stepped.2) F

@@ -15,7 +15,14 @@ mod Brought
 mod Ended
 mod Heard
 mod Lined
+mod Files
+mod Filing
 mod Ways
 mod Lifting
 mod Led
 mod LedBack
+mod Asking
+mod AtLine
+mod Along
+mod Settled
+mod Turns

@@ -1,5 +1,5 @@
 -- What a line's act hands out is held then.
-use Rattle.std.proofs.Common.{◌≡◌, ◌<◌, ℕ, List, Option, Some, None, IfSome, Result, Ok, Err, length, slice_get, sym, ◌∙◌, ap, subst}
+use Rattle.std.proofs.Common.{◌≡◌, ◌<◌, ℕ, List, Option, Some, None, IfSome, Result, Ok, Err, length, slice_get, sym, ◌∙◌, ap, subst, Bool}
 use Rattle.omx_types.specs.declared.handle.Handle.{Handle}
 use Rattle.il_machine.specs.World.{World}
 use Rattle.act_text.specs.declared.text.ActText.{ActText}
@@ -40,51 +40,51 @@ if_called_map (Err e) P Q f h = tt
 module _ {S C : Type 0} (see : Sight S (ComparingValue S) C) (old new : Shown S (ComparingValue S) C) (plan : PlanValue) (handles : List Handle) (works works' : List (Option (WorkOf (ShownPart S (ComparingValue S))))) (clients clients' : List (Option C))
     (said : ActText) (reply : Reply S (ComparingValue S) C) (R : IsReplyOf see old new plan.parts handles said reply) (out : (h : Handle) → IsGone new h → IsOut h (graphs.look_of new)) where
   pub still_lifts : IsStill see R.act reply → works' ≡ works → clients' ≡ clients → Lifts see old new plan handles works works' clients clients' said reply R out
-  still_lifts Q e f x w v I G =
-      subst (λ (l : List (Option (WorkOf (ShownPart S (ComparingValue S))))). IsStanding see new plan handles l clients' x v) (sym e)
-      (subst (λ (l : List (Option C)). IsStanding see new plan handles works l x v) (sym f) (still_on see old new plan handles works clients x w v I R.act reply G Q))
+  still_lifts Q e f tells x w v I G =
+      subst (λ (l : List (Option (WorkOf (ShownPart S (ComparingValue S))))). IsStanding see tells new plan handles l clients' x v) (sym e)
+      (subst (λ (l : List (Option C)). IsStanding see tells new plan handles works l x v) (sym f) (still_on see old new plan handles works clients tells x w v I R.act reply G Q))
 
   module _ (place : ℕ) (h : Handle) (its : slice_get handles place ≡ Some h) where
     module _ (P : IsClaimPair see h R.act reply) where
       as_claim : (w v : World) → IsGoing see old new w v R.act reply → IsGoing see old new w v (asks.Claim h) (replies.Claim P.result)
       as_claim w v G = subst (λ (r : Reply S (ComparingValue S) C). IsGoing see old new w v (asks.Claim h) r) P.reply_is (subst (λ (a : Act S (ComparingValue S) C). IsGoing see old new w v a reply) P.act_is G)
 
-      free_so : (x : Case) (w v : World) → IsStanding see old plan handles works clients x w → IsGoing see old new w v R.act reply → place < length works → IfSome (claimed_in P.result) (λ work. slice_get works place ≡ Some None)
-      free_so x w v I G l =
+      free_so : (tells : Bool) (x : Case) (w v : World) → IsStanding see tells old plan handles works clients x w → IsGoing see old new w v R.act reply → place < length works → IfSome (claimed_in P.result) (λ work. slice_get works place ≡ Some None)
+      free_so tells x w v I G l =
           let o = there_at works place l in
           if_some_map (claimed_in P.result) (o.0 ≡ None) (slice_get works place ≡ Some None) (λ e. o.1 ∙ ap (λ (z : Option (WorkOf (ShownPart S (ComparingValue S)))). Some z) e)
-          (claimed_free see old new plan handles works clients x w v I place h its o.0 o.1 P.result (as_claim w v G))
+          (claimed_free see old new plan handles works clients tells x w v I place h its o.0 o.1 P.result (as_claim w v G))
 
       -- where the work is put nothing is held
-      pub claim_free : (x : Case) (w : World) → IsStanding see old plan handles works clients x w → place < length works → IfSome (work_in reply) (λ work. slice_get works place ≡ Some None)
-      claim_free x w I l =
+      pub claim_free : (tells : Bool) (x : Case) (w : World) → IsStanding see tells old plan handles works clients x w → place < length works → IfSome (work_in reply) (λ work. slice_get works place ≡ Some None)
+      claim_free tells x w I l =
           subst (λ (r : Reply S (ComparingValue S) C). IfSome (work_in r) (λ work. slice_get works place ≡ Some None)) (sym P.reply_is)
-          (free_so x w _ I (go see old new plan handles works works' clients clients' said reply R out w I.stands) l)
+          (free_so tells x w _ I (go see old new plan handles works works' clients clients' said reply R out w I.stands) l)
 
       pub claim_lifts : place < length works → works' ≡ with_thing place (work_in reply) works → clients' ≡ clients → Lifts see old new plan handles works works' clients clients' said reply R out
-      claim_lifts l e f x w v I G =
+      claim_lifts l e f tells x w v I G =
           let is : works' ≡ with_thing place (claimed_in P.result) works = e ∙ ap (λ (r : Reply S (ComparingValue S) C). with_thing place (work_in r) works) P.reply_is in
-          subst (λ (l : List (Option (WorkOf (ShownPart S (ComparingValue S))))). IsStanding see new plan handles l clients' x v) (sym is)
-          (subst (λ (l : List (Option C)). IsStanding see new plan handles (with_thing place (claimed_in P.result) works) l x v) (sym f)
-          (claimed_on see old new plan handles works clients x w v I place h its P.result (as_claim w v G) (free_so x w v I G l)))
+          subst (λ (l : List (Option (WorkOf (ShownPart S (ComparingValue S))))). IsStanding see tells new plan handles l clients' x v) (sym is)
+          (subst (λ (l : List (Option C)). IsStanding see tells new plan handles (with_thing place (claimed_in P.result) works) l x v) (sym f)
+          (claimed_on see old new plan handles works clients tells x w v I place h its P.result (as_claim w v G) (free_so tells x w v I G l)))
 
     module _ (P : IsTakePair see h R.act reply) where
       as_take : (w v : World) → IsGoing see old new w v R.act reply → IsGoing see old new w v (asks.TakeNote h) (replies.TakeNote P.result)
       as_take w v G = subst (λ (r : Reply S (ComparingValue S) C). IsGoing see old new w v (asks.TakeNote h) r) P.reply_is (subst (λ (a : Act S (ComparingValue S) C). IsGoing see old new w v a reply) P.act_is G)
 
-      empty_so : (x : Case) (w v : World) → IsStanding see old plan handles works clients x w → IsGoing see old new w v R.act reply → place < length clients → IfCalled P.result (slice_get clients place ≡ Some None)
-      empty_so x w v I G l =
+      empty_so : (tells : Bool) (x : Case) (w v : World) → IsStanding see tells old plan handles works clients x w → IsGoing see old new w v R.act reply → place < length clients → IfCalled P.result (slice_get clients place ≡ Some None)
+      empty_so tells x w v I G l =
           let o = there_at clients place l in
           if_called_map P.result (o.0 ≡ None) (slice_get clients place ≡ Some None) (λ e. o.1 ∙ ap (λ (z : Option C). Some z) e)
-          (taken_free see old new plan handles works clients x w v I place h its o.0 o.1 P.result (as_take w v G))
+          (taken_free see old new plan handles works clients tells x w v I place h its o.0 o.1 P.result (as_take w v G))
 
-      pub take_free : (x : Case) (w : World) → IsStanding see old plan handles works clients x w → place < length clients → IfTaken reply (slice_get clients place ≡ Some None)
-      take_free x w I l =
+      pub take_free : (tells : Bool) (x : Case) (w : World) → IsStanding see tells old plan handles works clients x w → place < length clients → IfTaken reply (slice_get clients place ≡ Some None)
+      take_free tells x w I l =
           subst (λ (r : Reply S (ComparingValue S) C). IfTaken r (slice_get clients place ≡ Some None)) (sym P.reply_is)
-          (empty_so x w _ I (go see old new plan handles works works' clients clients' said reply R out w I.stands) l)
+          (empty_so tells x w _ I (go see old new plan handles works works' clients clients' said reply R out w I.stands) l)
 
       pub take_lifts : place < length clients → works' ≡ works → PutsClient see.progress place clients clients' reply → Lifts see old new plan handles works works' clients clients' said reply R out
-      take_lifts l e put x w v I G =
-          subst (λ (l : List (Option (WorkOf (ShownPart S (ComparingValue S))))). IsStanding see new plan handles l clients' x v) (sym e)
-          (taken_on see old new plan handles works clients x w v I place h its P.result clients' (as_take w v G) (empty_so x w v I G l)
+      take_lifts l e put tells x w v I G =
+          subst (λ (l : List (Option (WorkOf (ShownPart S (ComparingValue S))))). IsStanding see tells new plan handles l clients' x v) (sym e)
+          (taken_on see old new plan handles works clients tells x w v I place h its P.result clients' (as_take w v G) (empty_so tells x w v I G l)
           (subst (λ (r : Reply S (ComparingValue S) C). PutsClient see.progress place clients clients' r) P.reply_is put))

@@ -1,5 +1,5 @@
 -- A replay goes on standing for a world, act by act.
-use Rattle.std.proofs.Common.{◌≡◌, ◌≢◌, ℕ, List, Option, Some, None, IfSome, Result, Ok, Err, length, nat_eq, slice_get, slice_set, refl, sym, ◌∙◌, ap, subst, length-set}
+use Rattle.std.proofs.Common.{IsTrue, ◌≡◌, ◌≢◌, ℕ, List, Option, Some, None, IfSome, Result, Ok, Err, length, nat_eq, slice_get, slice_set, refl, sym, ◌∙◌, ap, subst, length-set, Bool}
 use Rattle.omx_types.specs.declared.error.OmxError.{OmxError}
 use Rattle.omx_types.specs.declared.handle.Handle.{Handle}
 use Rattle.il_machine.specs.declared.answer.Progress.{Progress}
@@ -52,12 +52,12 @@ module _ {S C : Type 0} where
     pub asks_none : AsksNone (plain_act see unsaid act)
     pub out : (h : Handle) → IsGone new h → IsOut h (graphs.look_of new)
 
-  module _ (see : Sight S (ComparingValue S) C) (old new : Shown S (ComparingValue S) C) (plan : PlanValue) (handles : List Handle) (works : List (Option (WorkOf (ShownPart S (ComparingValue S))))) (clients : List (Option C)) (x : Case) (w v : World) (I : IsStanding see old plan handles works clients x w) where
+  module _ (see : Sight S (ComparingValue S) C) (old new : Shown S (ComparingValue S) C) (plan : PlanValue) (handles : List Handle) (works : List (Option (WorkOf (ShownPart S (ComparingValue S))))) (clients : List (Option C)) (tells : Bool) (x : Case) (w v : World) (I : IsStanding see tells old plan handles works clients x w) where
     pub apart : AreApart handles
     apart i j h k a b e = sym (I.numbers i h a) ∙ (e ∙ I.numbers j k b)
 
     pub standing : (act : Act S (ComparingValue S) C) (reply : Reply S (ComparingValue S) C) → IsGoing see old new w v act reply → (works' : List (Option (WorkOf (ShownPart S (ComparingValue S))))) (clients' : List (Option C)) → length works' ≡ length works → length clients' ≡ length clients
-        → HoldsWorks handles works' v → HoldsObjects see handles clients' new v → AreCompared see.reads.told x.sinks works' new → IsStanding see new plan handles works' clients' x v
+        → HoldsWorks handles works' v → HoldsObjects see handles clients' new v → (IsTrue tells → AreCompared see.reads.told x.sinks works' new) → IsStanding see tells new plan handles works' clients' x v
     standing act reply G works' clients' n m H O A =
         let a = plain_act see G.unsaid act in
         let r = plain_reply G.unsaid reply in
@@ -71,11 +71,12 @@ module _ {S C : Type 0} where
           many_clients = m ∙ I.many_clients;
           stands = G.stands;
           sound = sound_step w v a r G.met G.step I.sound;
-          telling = tells_on w a r v I.sound G.brings I.telling G.met G.step;
+          telling = λ t. tells_on w a r v I.sound G.brings (I.telling t) G.met G.step;
           clientless = clientless_still w a r v I.sound I.clientless G.asks_none G.met G.step;
           works_are = H;
           objects = O;
           sinks = A;
+          untold = I.untold;
         }
 
     pub stays_told : (act : Act S (ComparingValue S) C) (reply : Reply S (ComparingValue S) C) → IsGoing see old new w v act reply → StaysTold old new w v
@@ -101,10 +102,10 @@ module _ {S C : Type 0} where
         objects_stay see handles apart clients old new w v I.objects (stays_told act reply G)
         (subst (λ (o : Option OutClient). MovesClients None o old new) g (subst (λ (o : Option Handle). MovesClients o (client_out see.progress act reply) old new) b (G.moved).clients))
 
-    pub still_on : (act : Act S (ComparingValue S) C) (reply : Reply S (ComparingValue S) C) → IsGoing see old new w v act reply → IsStill see act reply → IsStanding see new plan handles works clients x v
+    pub still_on : (act : Act S (ComparingValue S) C) (reply : Reply S (ComparingValue S) C) → IsGoing see old new w v act reply → IsStill see act reply → IsStanding see tells new plan handles works clients x v
     still_on act reply G Q =
         standing act reply G works clients refl refl (same_works act reply G Q.back Q.given) (same_objects act reply G Q.client Q.gone)
-        (compared_stay see.reads.told x.sinks works old new I.sinks (same_files act reply G Q.file))
+        (λ t. compared_stay see.reads.told x.sinks works old new (I.sinks t) (same_files act reply G Q.file))
 
     -- ---- a work goes out
 
@@ -133,7 +134,7 @@ module _ {S C : Type 0} where
       claimed_free o at (Err e) G = tt
 
       pub claimed_on : (result : Result (LentClaim S (ComparingValue S)) OmxError) → IsGoing see old new w v (asks.Claim h) (replies.Claim result) → IfSome (claimed_in result) (λ work. slice_get works place ≡ Some None)
-          → IsStanding see new plan handles (with_thing place (claimed_in result) works) clients x v
+          → IsStanding see tells new plan handles (with_thing place (claimed_in result) works) clients x v
       claimed_on (Ok (claimed.Work work)) G free =
           let act : Act S (ComparingValue S) C = asks.Claim h in
           let reply : Reply S (ComparingValue S) C = replies.Claim (Ok (claimed.Work work)) in
@@ -142,7 +143,7 @@ module _ {S C : Type 0} where
           standing act reply G (slice_set works place (Some work)) clients (length-set works place (Some work)) refl
           (work_comes handles apart works w v I.works_are place work (its ∙ ap (λ (k : Handle). Some k) (sym given.0)) free (moves_works act reply G))
           (same_objects act reply G refl refl)
-          (compared_out see.reads.told x.sinks works old new I.sinks place work free (given.1 ∙ ap (files_in old) number)
+          (λ t. compared_out see.reads.told x.sinks works old new (I.sinks t) place work free (given.1 ∙ ap (files_in old) number)
           (λ n. ((G.moved).objects).files n ∙ ap (λ (k : ℕ). with_at nat_eq (Some (k, None)) (files_in old) n) number))
       claimed_on (Ok claimed.Busy) G free = still_on _ _ G (record { file = refl; back = refl; given = refl; client = refl; gone = refl })
       claimed_on (Ok claimed.NotRunning) G free = still_on _ _ G (record { file = refl; back = refl; given = refl; client = refl; gone = refl })
@@ -169,11 +170,11 @@ module _ {S C : Type 0} where
       taken_free o at (Ok tooks.Busy) G = tt
       taken_free o at (Err e) G = tt
 
-      at_clients : (those these : List (Option C)) → these ≡ those → IsStanding see new plan handles works those x v → IsStanding see new plan handles works these x v
-      at_clients those these e s = subst (λ (l : List (Option C)). IsStanding see new plan handles works l x v) (sym e) s
+      at_clients : (those these : List (Option C)) → these ≡ those → IsStanding see tells new plan handles works those x v → IsStanding see tells new plan handles works these x v
+      at_clients those these e s = subst (λ (l : List (Option C)). IsStanding see tells new plan handles works l x v) (sym e) s
 
       pub taken_on : (result : Result (Took C) OmxError) (clients' : List (Option C)) → IsGoing see old new w v (asks.TakeNote h) (replies.TakeNote result) → IfCalled result (slice_get clients place ≡ Some None)
-          → PutsCalled see.progress place clients clients' result → IsStanding see new plan handles works clients' x v
+          → PutsCalled see.progress place clients clients' result → IsStanding see tells new plan handles works clients' x v
       taken_on (Ok (tooks.Call call)) clients' G free put =
           let act : Act S (ComparingValue S) C = asks.TakeNote h in
           let reply : Reply S (ComparingValue S) C = replies.TakeNote (Ok (tooks.Call call)) in
@@ -184,16 +185,16 @@ module _ {S C : Type 0} where
           (standing act reply G works (slice_set clients place (Some client)) refl (length-set clients place (Some client)) (same_works act reply G refl refl)
           (object_comes see handles apart clients old new w v I.objects place h its client free T (subst (λ (p : Progress). WasTold h p v) (sym put.1) told)
           (subst (λ (p : Progress). MovesClients None (Some (record { handle = h; progress = p })) old new) (sym put.1) (G.moved).clients))
-          (compared_stay see.reads.told x.sinks works old new I.sinks (same_files act reply G refl)))
+          (λ t. compared_stay see.reads.told x.sinks works old new (I.sinks t) (same_files act reply G refl)))
       taken_on (Ok tooks.None) clients' G free put = at_clients clients clients' put (still_on _ _ G (record { file = refl; back = refl; given = refl; client = refl; gone = refl }))
       taken_on (Ok tooks.Busy) clients' G free put = at_clients clients clients' put (still_on _ _ G (record { file = refl; back = refl; given = refl; client = refl; gone = refl }))
       taken_on (Err e) clients' G free put = at_clients clients clients' put (still_on _ _ G (record { file = refl; back = refl; given = refl; client = refl; gone = refl }))
 
       -- ---- it comes back
 
-      pub ended_on : (client : C) → slice_get clients place ≡ Some (Some client) → IsGoing see old new w v (asks.EndNote h client) replies.EndNote → IsStanding see new plan handles works (slice_set clients place None) x v
+      pub ended_on : (client : C) → slice_get clients place ≡ Some (Some client) → IsGoing see old new w v (asks.EndNote h client) replies.EndNote → IsStanding see tells new plan handles works (slice_set clients place None) x v
       ended_on client held G =
           let act : Act S (ComparingValue S) C = asks.EndNote h client in
           standing act replies.EndNote G works (slice_set clients place None) refl (length-set clients place None) (same_works act replies.EndNote G refl refl)
           (object_goes see handles apart clients old new w v I.objects place h its client held (stays_told act replies.EndNote G) (G.moved).clients)
-          (compared_stay see.reads.told x.sinks works old new I.sinks (same_files act replies.EndNote G refl))
+          (λ t. compared_stay see.reads.told x.sinks works old new (I.sinks t) (same_files act replies.EndNote G refl))

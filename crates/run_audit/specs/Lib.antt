@@ -1,6 +1,10 @@
 pub mod Answering
 pub mod Clientless
+pub mod Files
 pub mod Keeping
+pub mod Leading
 pub mod Replaying
 pub mod Returning
-pub mod Leading
+pub mod Seeing
+pub mod Settling
+pub mod Walking

@@ -1,5 +1,5 @@
 -- Where a replay stands: its graph stands for the moment to which the lines so far led, and what is out of the graph is held.
-use Rattle.std.specs.Prelude.{◌≡◌, ◌≢◌, ◌≤◌, ℕ, true, List, [], length, slice_get, take, Option, Some, None, MatchOption, option_and_then}
+use Rattle.std.specs.Prelude.{◌≡◌, ◌≢◌, ◌≤◌, ℕ, Bool, true, IsTrue, IsFalse, List, [], length, slice_get, take, Option, Some, None, MatchOption, option_and_then}
 use Rattle.omx_types.specs.declared.handle.Handle.{Handle}
 use Rattle.il_machine.specs.Sound.{Sound}
 use Rattle.il_machine.specs.Whole.{Stands}
@@ -55,7 +55,7 @@ abbrev pub AreFronts : (ℕ → Option (List ℕ)) → World → Type 0
 AreFronts sinks w = (place : ℕ) (text : List ℕ) → sinks place ≡ Some text → MatchOption (stream_of place w) ⊥ (λ s. (s.known ≡ Some []) × (take (length s.written) text ≡ s.written))
 
 -- From the case's lines on, the graph stands for the world, and what is out of it is held. The lists go by the components' places.
-pub record IsStanding {S C : Type 0} (see : Sight S (ComparingValue S) C) (g : Shown S (ComparingValue S) C) (plan : PlanValue) (handles : List Handle)
+pub record IsStanding {S C : Type 0} (see : Sight S (ComparingValue S) C) (tells : Bool) (g : Shown S (ComparingValue S) C) (plan : PlanValue) (handles : List Handle)
     (works : List (Option (WorkOf (ShownPart S (ComparingValue S))))) (clients : List (Option C)) (x : Case) (w : World) : Type 0 where
   pub plan_is : x.plan ≡ plan
   pub scene : x.scene ≡ scene_in plan.parts handles
@@ -66,15 +66,16 @@ pub record IsStanding {S C : Type 0} (see : Sight S (ComparingValue S) C) (g : S
   pub many_clients : length clients ≡ length plan.parts
   pub stands : Stands (kept see.progress g) w
   pub sound : Sound w
-  pub telling : AreTelling w
+  pub telling : IsTrue tells → AreTelling w
   pub clientless : HasNoClients w
   pub works_are : HoldsWorks handles works w
   pub objects : HoldsObjects see handles clients g w
-  pub sinks : AreCompared see.reads.told x.sinks works g
+  pub sinks : IsTrue tells → AreCompared see.reads.told x.sinks works g
+  pub untold : IsFalse tells → (place : ℕ) → x.sinks place ≡ None
 
 -- so it is at the moment, and it was asked and told as much
-pub record IsReplay {S C : Type 0} (see : Sight S (ComparingValue S) C) (r : Replay S C) (x : Case) (at : Moment) : Type 0 where
-  pub standing : IsStanding see r.served.graph r.plan r.handles.items r.works.items r.clients.items x at.world
+pub record IsReplay {S C : Type 0} (see : Sight S (ComparingValue S) C) (tells : Bool) (r : Replay S C) (x : Case) (at : Moment) : Type 0 where
+  pub standing : IsStanding see tells r.served.graph r.plan r.handles.items r.works.items r.clients.items x at.world
   pub written : AreFronts x.sinks at.world
   pub few : length (r.plan).parts ≤ 32
   pub many_told : length at.told ≡ length (r.plan).parts

@@ -2,7 +2,9 @@
 
 ghost use Rattle.std.specs.Prelude.{◌≡◌, length};
 ghost use Rattle.graph_acts.specs.Plain.{sight_of};
-ghost use Rattle.audit_acts.specs.Asking.{IsSaid};
+ghost use Rattle.il_machine.specs.Acts.{Act as Plain};
+ghost use Rattle.play_log.specs.Saying.{SaysAct};
+ghost use Rattle.audit_acts.specs.Asking.{IsSaid, scene_in};
 ghost use Rattle.run_audit.specs.Answering.{IsAnswered, IsReplyOf, IsUnanswered, OnReply, OnSame, OnUnknown, UnlessSame};
 
 use act_text::ActText;
@@ -36,6 +38,7 @@ pub fn answer<S: Source, K: Sink, C: Client>(
     ensures other { UnlessSame result (IsUnanswered (sight_of C.Client S.Source K.Sink) served.old.graph parts.now handles.now said.now) }
     ensures reply { OnReply result (IsReplyOf (sight_of C.Client S.Source K.Sink) served.old.graph served.new.graph parts.now handles.now said.now) }
     ensures unasked { OnUnknown result (served.new ≡ served.old) }
+    ensures unknown { OnUnknown result ((act : Plain) → SaysAct (scene_in parts.now handles.now) (said.now).act act → ⊥) }
 {
     let Some(act) = act_of(parts, handles, &said.act) else {
         return Answered::Unknown;

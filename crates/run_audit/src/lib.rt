@@ -1,12 +1,17 @@
 //! The replay of a play's log on a graph: the act of a line is asked, and the reply compared with the line's.
 #![tactic(auto)]
 
+mod acts;
 mod answering;
 mod keeping;
+mod passing;
 mod replay;
 mod returning;
+mod settling;
 mod telling;
+mod walking;
 
 pub use answering::{Answered, answer};
 pub use replay::{Passed, Replay};
 pub use returning::Back;
+pub use walking::Walked;

@@ -27,6 +27,6 @@ pub enum Passed {
     On,
     /// It doesn't pass this one.
     Stop(AuditWhy),
-    /// The step of the work that it brings back failed.
-    Failed(PartFault),
+    /// The step of the work that it brings back failed, of the component at that place.
+    Failed { component: usize, fault: PartFault },
 }

@@ -5,7 +5,6 @@ use Rattle.omx_types.specs.declared.error.OmxError.{OmxError}
 use Rattle.omx_types.specs.declared.error.CallError.{CallError}
 use Rattle.omx_types.specs.declared.handle.Handle.{Handle}
 use Rattle.il_machine.specs.declared.answer.Acted.{Acted}
-use Rattle.il_machine.specs.declared.answer.Acted.TheVariants as acted
 use Rattle.il_machine.specs.declared.answer.Why.{Why}
 use Rattle.il_machine.specs.declared.answer.Why.TheVariants as why
 use Rattle.il_machine.specs.declared.port.Port.{Port}

@@ -1,6 +1,6 @@
 -- The lines of a trace, written one after the other.
-use Rattle.std.proofs.Common.{◌≡◌, ◌≤◌, ◌<◌, ◌+◌, inl, inr, ℕ, List, [], ◌∷◌, ◌++◌, take, refl, subst, append_assoc, append-nil, ap, ◌∙◌, sym, arith, Option, Result, Ok, Err, length, get_or}
-use Rattle.std.specs.Prelude.{codes, OnOk, IfErr}
+use Rattle.std.proofs.Common.{◌≡◌, ◌≤◌, ◌<◌, ◌+◌, inl, inr, ℕ, List, [], ◌∷◌, ◌++◌, take, refl, subst, append_assoc, append-nil, ap, ◌∙◌, sym, arith, Option, Result, Ok, Err, Some, slice_get, length, get_or}
+use Rattle.std.specs.Prelude.{codes, OnOk, OnErr, IfErr}
 use Rattle.std.proofs.lemmas.List.{take_more}
 use Rattle.std.specs.Io.KnownBytes.{append_known}
 use Rattle.omx_types.specs.declared.fault.Fault.{Fault}
@@ -16,7 +16,7 @@ use Rattle.trace_run.specs.Replying.{LineReply}
 use Rattle.trace_run.specs.Lines.{Answered}
 use Rattle.trace_run.specs.Works.{OnDesk, IsDeskMoment}
 use Rattle.trace_run.specs.Traced.{line_text, Lead, beginning, GotTrace, GotFront, GotLines, IsStopped}
-use Rattle.trace_run.specs.Writing.{PrintsLine, GotBody, IsBroken, FromEach}
+use Rattle.trace_run.specs.Writing.{PrintsLine, IsCutAt, PassesOn, GotBody, IsPast, IsBroken, FromEach}
 
 -- ---- one line after others
 
@@ -43,11 +43,12 @@ lead_then number at (first ∷ lines) text last line reply next (said, then, res
           ∙ ap (λ k. line_text number first said ++ (rest ++ line_text k line reply)) one,
     )
 
--- From each moment that was stood for the lines lead to one that is stood for now, and their text was written.
-abbrev pub Carries : OnDesk → OnDesk → List TraceLine → Option (List ℕ) → Option (List ℕ) → Type 0
-Carries from now lines old new = (at : Moment) → IsDeskMoment from at → (text : List ℕ) × (last : Moment) × IsDeskMoment now last × Lead 1 at lines text last × (new ≡ append_known old text)
+-- From each moment that was stood for the lines lead to one that is stood for now. Their text is what was written, and behind it what waits.
+abbrev pub Carries : OnDesk → OnDesk → List TraceLine → List ℕ → Option (List ℕ) → Option (List ℕ) → Type 0
+Carries from now lines waiting old new =
+    (at : Moment) → IsDeskMoment from at → (gone : List ℕ) × (last : Moment) × IsDeskMoment now last × Lead 1 at lines (gone ++ waiting) last × (new ≡ append_known old gone)
 
-pub carries_none : (from : OnDesk) (lines : List TraceLine) (old : Option (List ℕ)) → Carries from from (take 0 lines) old old
+pub carries_none : (from : OnDesk) (lines : List TraceLine) (old : Option (List ℕ)) → Carries from from (take 0 lines) [] old old
 carries_none from [] old at S = ([], at, S, (refl, refl), sym (append_known-nil old))
 carries_none from (line ∷ lines) old at S = ([], at, S, (refl, refl), sym (append_known-nil old))
 
@@ -69,17 +70,18 @@ prints_more now next lines number line before piece at text last S lead count em
       lead = subst (λ (p : List ℕ). Lead 1 at (lines ++ line ∷ []) (text ++ p) x.0) same (lead_then 1 at lines text last line reply x.0 lead x.2);
     }
 
-pub carries_more : (from now next : OnDesk) (lines : List TraceLine) (number : ℕ) (line : TraceLine) (before piece : List ℕ) (old mid new : Option (List ℕ)) → Carries from now lines old mid
-    → number ≡ length lines + 1 → before ≡ [] → PrintsLine now next number line before piece → new ≡ append_known mid piece → Carries from next (lines ++ line ∷ []) old new
-carries_more from now next lines number line before piece old mid new carries count empty prints is at S =
-    let c = carries at S in
-    let text = c.0 in
-    let last = c.1 in
-    let T = c.2 in
-    let lead = c.3 in
-    let got = c.4 in
-    let x = prints_more now next lines number line before piece at text last T lead count empty prints in
-    (text ++ piece, x.last, x.stood, x.lead, is ∙ ap (λ t. append_known t piece) got ∙ append_known-twice old text piece)
+pub carries_more : (from now next : OnDesk) (lines : List TraceLine) (number : ℕ) (line : TraceLine) (before piece waiting rest : List ℕ) (old mid new : Option (List ℕ)) → Carries from now lines waiting old mid
+    → number ≡ length lines + 1 → before ≡ [] → PrintsLine now next number line before piece → PassesOn mid new waiting piece rest → Carries from next (lines ++ line ∷ []) rest old new
+carries_more from now next lines number line before piece waiting rest old mid new carries count empty prints (more, is, parts) at S =
+    let (gone, last, T, lead, got) = carries at S in
+    let x = prints_more now next lines number line before piece at (gone ++ waiting) last T lead count empty prints in
+    let same : (gone ++ waiting) ++ piece ≡ (gone ++ more) ++ rest = append_assoc gone waiting piece ∙ ap (λ t. gone ++ t) parts ∙ sym (append_assoc gone more rest) in (
+      gone ++ more,
+      x.last,
+      x.stood,
+      subst (λ (t : List ℕ). Lead 1 at (lines ++ line ∷ []) t x.last) same x.lead,
+      is ∙ ap (λ t. append_known t more) got ∙ append_known-twice old gone more,
+    )
 
 -- a line more
 pub next_line : (lines : List TraceLine) (place : ℕ) (line : TraceLine) → place < length lines → line ≡ get_or lines place line → take place lines ++ line ∷ [] ≡ take (place + 1) lines
@@ -93,43 +95,69 @@ pub ok_so : {T E P Q : Type 0} (r : Result T E) → OnOk r P → (P → Q) → O
 ok_so (Ok x) h f = f h
 ok_so (Err error) h f = tt
 
+-- what waited was written, and then the line
+pub passed_both : (old mid new : Option (List ℕ)) (before line after : List ℕ) → mid ≡ append_known old before → new ≡ append_known mid line → after ≡ [] → PassesOn old new before line after
+passed_both old mid new before line after first then none = (
+  before ++ line,
+  then ∙ ap (λ t. append_known t line) first ∙ append_known-twice old before line,
+  sym (ap (λ a. (before ++ line) ++ a) none ∙ append-nil (before ++ line)),
+)
+
+pub err_so : {T E P : Type 0} (r : Result T E) → P → OnErr r P
+err_so (Ok x) h = tt
+err_so (Err error) h = h
+
 -- ---- the end of the lines
 
-pub carried_all : (from now : OnDesk) (lines all : List TraceLine) (old new : Option (List ℕ)) → Carries from now lines old new → lines ≡ all → FromEach from (λ at. GotBody at all old new)
-carried_all from now lines all old new carries same at S =
-    let c = carries at S in
-    let text = c.0 in
-    let last = c.1 in
-    let T = c.2 in
-    let lead = c.3 in
-    let got = c.4 in
-    (text, last, subst (λ (l : List TraceLine). Lead 1 at l text last) same lead, got)
+-- what waited was written
+pub carried_all : (from now : OnDesk) (lines all : List TraceLine) (waiting : List ℕ) (old mid new : Option (List ℕ)) → Carries from now lines waiting old mid → lines ≡ all → new ≡ append_known mid waiting
+    → FromEach from (λ at. GotBody at all old new)
+carried_all from now lines all waiting old mid new carries same is at S =
+    let (gone, last, T, lead, got) = carries at S in (
+      gone ++ waiting,
+      last,
+      subst (λ (l : List TraceLine). Lead 1 at l (gone ++ waiting) last) same lead,
+      is ∙ ap (λ t. append_known t waiting) got ∙ append_known-twice old gone waiting,
+    )
 
--- memory was wanting for the next line
-pub carried_some : (from now : OnDesk) (all : List TraceLine) (place : ℕ) (old new : Option (List ℕ)) (before after : ℕ) → Carries from now (take place all) old new → FromEach from (λ at. IsBroken at all old new before after OutOfMemory)
-carried_some from now all place old new before after carries at S =
-    let c = carries at S in
-    let text = c.0 in
-    let last = c.1 in
-    let T = c.2 in
-    let lead = c.3 in
-    let got = c.4 in
-    (place, (text, last, lead, got))
+-- memory was wanting before the first line
+pub carried_none : (from : OnDesk) (all : List TraceLine) (old new : Option (List ℕ)) (before after : ℕ) → new ≡ old → FromEach from (λ at. IsBroken at all from old new before after OutOfMemory)
+carried_none from [] old new before after same at S = (0, [], at, (refl, refl), same ∙ sym (append_known-nil old), inl S)
+carried_none from (line ∷ lines) old new before after same at S = (0, [], at, (refl, refl), same ∙ sym (append_known-nil old), inl S)
 
--- a front of the next line's text was written
-pub carried_front : (from now next : OnDesk) (all : List TraceLine) (place number : ℕ) (line : TraceLine) (cleared piece : List ℕ) (old mid new : Option (List ℕ)) (before after : ℕ) (fault : Fault)
-    → Carries from now (take place all) old mid → number ≡ length (take place all) + 1 → cleared ≡ [] → take place all ++ line ∷ [] ≡ take (place + 1) all → PrintsLine now next number line cleared piece → AppendsFront mid new piece
-    → Rose before after → fault ≡ WriteFault → FromEach from (λ at. IsBroken at all old new before after fault)
-carried_front from now next all place number line cleared piece old mid new before after fault carries count empty more prints front rose is at S =
-    let c = carries at S in
-    let text = c.0 in
-    let last = c.1 in
-    let T = c.2 in
-    let lead = c.3 in
-    let got = c.4 in
-    let x = prints_more now next (take place all) number line cleared piece at text last T lead count empty prints in
-    subst (λ (f : Fault). IsBroken at all old new before after f) (sym is)
-    (rose, (place + 1, text ++ piece, x.last, subst (λ (l : List TraceLine). Lead 1 at l (text ++ piece) x.last) more x.lead, front-after old mid new text piece got front))
+is_past : (now next : OnDesk) (all : List TraceLine) (place : ℕ) (line : TraceLine) (last : Moment) → slice_get all place ≡ Some line → IsDeskMoment now last → IsCutAt now next line → IsPast all place last next
+is_past now next all place line last there S (inl same) = inl (subst (λ (k : OnDesk). IsDeskMoment k last) (sym same) S)
+is_past now next all place line last there S (inr (reply, leads)) =
+    let (after, T, answered) = leads last S in
+    inr (rw there (reply, after, answered, T))
+
+-- memory was wanting for the next line, and what waited was written
+pub carried_some : (from now next : OnDesk) (all : List TraceLine) (place : ℕ) (line : TraceLine) (waiting : List ℕ) (old mid new : Option (List ℕ)) (before after : ℕ) → Carries from now (take place all) waiting old mid
+    → slice_get all place ≡ Some line → IsCutAt now next line → new ≡ append_known mid waiting → FromEach from (λ at. IsBroken at all next old new before after OutOfMemory)
+carried_some from now next all place line waiting old mid new before after carries there cut is at S =
+    let (gone, last, T, lead, got) = carries at S in
+    (place, gone ++ waiting, last, lead, is ∙ ap (λ t. append_known t waiting) got ∙ append_known-twice old gone waiting, is_past now next all place line last there T cut)
+
+-- the write of what waited failed
+pub carried_waiting : (from now next : OnDesk) (all : List TraceLine) (place : ℕ) (waiting : List ℕ) (old mid new : Option (List ℕ)) (before after : ℕ) (fault : Fault) → Carries from now (take place all) waiting old mid
+    → AppendsFront mid new waiting → Rose before after → fault ≡ WriteFault → FromEach from (λ at. IsBroken at all next old new before after fault)
+carried_waiting from now next all place waiting old mid new before after fault carries front rose is at S =
+    let (gone, last, T, lead, got) = carries at S in
+    subst (λ (f : Fault). IsBroken at all next old new before after f) (sym is)
+    (rose, (place, gone ++ waiting, last, lead, front-after old mid new gone waiting got front))
+
+-- a write failed as the next line came behind what waited
+pub carried_front : (from now next : OnDesk) (all : List TraceLine) (place number : ℕ) (line : TraceLine) (cleared piece waiting : List ℕ) (old mid new : Option (List ℕ)) (before after : ℕ) (fault : Fault)
+    → Carries from now (take place all) waiting old mid → number ≡ length (take place all) + 1 → cleared ≡ [] → take place all ++ line ∷ [] ≡ take (place + 1) all → PrintsLine now next number line cleared piece
+    → AppendsFront mid new (waiting ++ piece) → Rose before after → fault ≡ WriteFault → FromEach from (λ at. IsBroken at all next old new before after fault)
+carried_front from now next all place number line cleared piece waiting old mid new before after fault carries count empty more prints front rose is at S =
+    let (gone, last, T, lead, got) = carries at S in
+    let x = prints_more now next (take place all) number line cleared piece at (gone ++ waiting) last T lead count empty prints in
+    let text : Lead 1 at (take (place + 1) all) (gone ++ (waiting ++ piece)) x.last =
+    subst (λ (l : List TraceLine). Lead 1 at l (gone ++ (waiting ++ piece)) x.last) more
+    (subst (λ (t : List ℕ). Lead 1 at (take place all ++ line ∷ []) t x.last) (append_assoc gone waiting piece) x.lead) in
+    subst (λ (f : Fault). IsBroken at all next old new before after f) (sym is)
+    (rose, (place + 1, gone ++ (waiting ++ piece), x.last, text, front-after old mid new gone (waiting ++ piece) got front))
 
 -- ---- the whole trace
 
@@ -159,7 +187,7 @@ end_broken key units lines old mid new before between after fault (body, last, l
 front_written : (key units : ℕ) (lines : List TraceLine) (old new : Option (List ℕ)) → (count : ℕ) × (text : List ℕ) × (last : Moment) × Lead 1 (beginning key units) (take count lines) text last × AppendsFront old new text → GotFront (Trace units lines) old new
 front_written key units lines old new x = (x.1, inr (x.0, (key, x.2, x.3)), x.4)
 
-pub lines_broken : (key units : ℕ) (lines : List TraceLine) (old new : Option (List ℕ)) (before after : ℕ) (fault : Fault) → IsBroken (beginning key units) lines old new before after fault → IsStopped (Trace units lines) old new before after fault
-lines_broken key units lines old new before after WriteFault (rose, rest) = (rose, front_written key units lines old new rest)
-lines_broken key units lines old new before after OutOfMemory (count, (text, last, lead, got)) = (count, text, (key, last, lead), got)
-lines_broken key units lines old new before after _ broken = absurd broken
+pub lines_broken : (key units : ℕ) (lines : List TraceLine) (kept : OnDesk) (old new : Option (List ℕ)) (before after : ℕ) (fault : Fault) → IsBroken (beginning key units) lines kept old new before after fault → IsStopped (Trace units lines) old new before after fault
+lines_broken key units lines kept old new before after WriteFault (rose, rest) = (rose, front_written key units lines old new rest)
+lines_broken key units lines kept old new before after OutOfMemory (count, text, last, lead, got, past) = (count, text, (key, last, lead), got)
+lines_broken key units lines kept old new before after _ broken = absurd broken

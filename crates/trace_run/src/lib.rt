@@ -6,6 +6,7 @@ mod asking;
 mod client;
 mod closing;
 mod desk;
+mod gathering;
 mod headers;
 mod lines;
 mod names;

@@ -6,7 +6,7 @@ ghost use Rattle.trace_run.specs.Standing.{parts, HasMoment, Leads, LeadsTo, Nam
 ghost use Rattle.trace_run.specs.Desks.{on_desk, desk_of};
 ghost use Rattle.trace_run.specs.Works.{HasDeskMoment, LeadsAllTo};
 ghost use Rattle.trace_run.specs.Replying.{Plain};
-ghost use Rattle.trace_run.specs.Writing.{PrintsLine};
+ghost use Rattle.trace_run.specs.Writing.{PrintsLine, IsCutAt};
 
 use crate::OutOfMemory;
 use crate::asking::ask;
@@ -36,6 +36,7 @@ pub fn put_line(
         (on_desk desk.old)
         (on_desk desk.new)
         number line.now text.old.items text.new.items) }
+    ensures cut { OnErr result (IsCutAt (on_desk desk.old) (on_desk desk.new) line.now) }
     ensures stood { HasDeskMoment (on_desk desk.new) }
 {
     put_head(number, line.text.as_bytes(), text)?;

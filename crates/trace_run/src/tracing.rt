@@ -1,12 +1,9 @@
 //! A trace from its first line to `end`: each line is written with its answer, and the graph is closed.
 
 ghost use Rattle.std.specs.Prelude.{◌≡◌, ◌≢◌, ◌<◌, ◌^◌, length, false, Err, OnOk, IfErr};
-ghost use Rattle.std.specs.Io.KnownBytes.{append_known};
 ghost use Rattle.omx_types.specs.declared.fault.Fault.TheVariants.{WriteFault};
-ghost use Rattle.outside_io.specs.Causes.{Rose};
 ghost use Rattle.outside_io.specs.Keeping.{KeepsSink};
-ghost use Rattle.outside_io.specs.Moves.{AppendsFront};
-ghost use Rattle.outside_io.specs.Writings.{WritesOn, WritesUntil};
+ghost use Rattle.outside_io.specs.Writings.{WritesUntil};
 ghost use Rattle.script_lang.specs.Scripts.{IsOfCommand};
 ghost use Rattle.script_lang.specs.declared.script.Script.TheVariants.{Trace};
 ghost use Rattle.trace_run.specs.Traced.{GotTrace, IsStopped};
@@ -15,9 +12,10 @@ ghost use Rattle.trace_run.specs.Works.{HasDeskMoment};
 ghost use Rattle.trace_run.specs.Writing.{GotBody, IsBroken, FromEach};
 
 use crate::desk::Desk;
+use crate::gathering::{GATHERED_BYTES, gather, write};
 use crate::lines::put_line;
 use omx_types::Fault;
-use outside_io::{Sink, write_all};
+use outside_io::Sink;
 use script_lang::{Script, TraceLine};
 use std::alloc::Global;
 
@@ -66,22 +64,7 @@ fn trace_lines<O: Sink>(
     }
 }
 
-/// Writes a whole text.
-fn write<O: Sink>(out: &mut O, text: &[u8]) -> Result<(), Fault>
-    ensures whole { OnOk result (O.told out.new ≡ append_known (O.told out.old) text.now) }
-    ensures front { AppendsFront (O.told out.old) (O.told out.new) text.now }
-    ensures fault { IfErr result (λ fault. (fault ≡ WriteFault) × Rose (O.faults out.old) (O.faults out.new)) }
-    ensures stays { OnOk result (O.faults out.new ≡ O.faults out.old) }
-    ensures keeps_sink { KeepsSink O.Sink out.old out.new }
-    ensures writing { WritesOn (O.writing out.old) (O.writing out.new) result }
-{
-    match write_all(out, text) {
-        Ok(()) => Ok(()),
-        Err(_) => Err(Fault::WriteFault),
-    }
-}
-
-/// Writes the lines with their answers.
+/// Writes the lines with their answers, many by one write. Whatever ends them, each whole line is written before the answer.
 fn write_lines<O: Sink>(
     desk: &mut Desk,
     alloc: Global,
@@ -92,19 +75,23 @@ fn write_lines<O: Sink>(
     ensures whole { OnOk result (FromEach (on_desk desk.old) (λ at.
         GotBody at lines.now (O.told out.old) (O.told out.new))) }
     ensures broken { IfErr result (λ fault. FromEach (on_desk desk.old) (λ at.
-        IsBroken at lines.now (O.told out.old) (O.told out.new) (O.faults out.old) (O.faults out.new) fault)) }
+        IsBroken at lines.now (on_desk desk.new) (O.told out.old) (O.told out.new) (O.faults out.old) (O.faults out.new) fault)) }
     ensures stood { HasDeskMoment (on_desk desk.new) }
     ensures stays { result ≢ Err WriteFault → O.faults out.new ≡ O.faults out.old }
     ensures keeps_sink { KeepsSink O.Sink out.old out.new }
     ensures writing { WritesUntil WriteFault (O.writing out.old) (O.writing out.new) result }
 {
+    let Ok(mut waiting) = Vec::with_capacity(alloc, GATHERED_BYTES) else {
+        return Err(Fault::OutOfMemory);
+    };
     let mut text = Vec::new(alloc);
     for (place, line) in lines.iter().enumerate() {
         text.clear();
         if put_line(desk, alloc, place as u64 + 1, line, &mut text).is_err() {
+            write(out, waiting.as_slice())?;
             return Err(Fault::OutOfMemory);
         }
-        write(out, text.as_slice())?;
+        gather(text.as_slice(), &mut waiting, out)?;
     }
-    Ok(())
+    write(out, waiting.as_slice())
 }

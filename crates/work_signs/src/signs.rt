@@ -20,23 +20,35 @@ pub struct Signs {
     notes: AtomicU64,
     /// How often a bell was rung, with the end.
     rings: AtomicU64,
-    /// By place, how often something happened at a component or at one near it.
-    bells: Vec<AtomicU64>,
+    /// The signs of each component, by its place.
+    places: Vec<PlaceSigns>,
+}
+
+/// Signs of a component.
+#[derive(Drop)]
+struct PlaceSigns {
+    /// How often something happened at it or at one near it.
+    bell: AtomicU64,
+    /// A worker is there.
+    taken: AtomicBool,
 }
 
 impl Signs {
     /// Signs for so many components, of which nothing was told yet.
     pub fn new(alloc: Global, components: usize) -> Result<Signs, OutOfMemory> {
-        let mut bells = Vec::with_capacity(alloc, components)?;
+        let mut places = Vec::with_capacity(alloc, components)?;
         for _ in 0..components {
-            bells.push(AtomicU64::new(0))?;
+            places.push(PlaceSigns {
+                bell: AtomicU64::new(0),
+                taken: AtomicBool::new(false),
+            })?;
         }
         Ok(Signs {
             stop: AtomicBool::new(false),
             over: AtomicBool::new(false),
             notes: AtomicU64::new(0),
             rings: AtomicU64::new(0),
-            bells,
+            places,
         })
     }
 
@@ -71,9 +83,9 @@ impl Signs {
 
     /// Something happened at the component of the place, and so at those near it, which are given by their bits.
     pub fn ring(&self, place: usize, near: u32) {
-        for (other, bell) in self.bells.iter().enumerate() {
+        for (other, signs) in self.places.iter().enumerate() {
             if other == place || (other < 32 && near >> (other as u32) & 1 == 1) {
-                bell.fetch_add(1, Ordering::SeqCst);
+                signs.bell.fetch_add(1, Ordering::SeqCst);
             }
         }
         self.rings.fetch_add(1, Ordering::SeqCst);
@@ -81,17 +93,34 @@ impl Signs {
 
     /// Something happened at every component.
     pub fn ring_all(&self) {
-        for bell in self.bells.iter() {
-            bell.fetch_add(1, Ordering::SeqCst);
+        for signs in self.places.iter() {
+            signs.bell.fetch_add(1, Ordering::SeqCst);
         }
         self.rings.fetch_add(1, Ordering::SeqCst);
     }
 
     /// How often the bell of the component was rung.
     pub fn bell(&self, place: usize) -> u64 {
-        match self.bells.get(place) {
-            Some(bell) => bell.load(Ordering::SeqCst),
+        match self.places.get(place) {
+            Some(signs) => signs.bell.load(Ordering::SeqCst),
             None => 0,
+        }
+    }
+
+    /// A worker comes to the component, unless another one is there. Whether it came.
+    pub fn enter(&self, place: usize) -> bool {
+        match self.places.get(place) {
+            Some(signs) => {
+                !signs.taken.load(Ordering::SeqCst) && !signs.taken.swap(true, Ordering::SeqCst)
+            }
+            None => true,
+        }
+    }
+
+    /// The worker that came goes.
+    pub fn leave(&self, place: usize) {
+        if let Some(signs) = self.places.get(place) {
+            signs.taken.store(false, Ordering::SeqCst);
         }
     }
 

@@ -19,7 +19,8 @@ use Rattle.board.specs.Asking.{ArePlain, bare, bare_log}
 use Rattle.worker_play_laws.specs.Entries.{entries_of, log_entry}
 use Rattle.play_log.specs.Entries.{Entry as LogEntry}
 use Rattle.play_result_laws.specs.Gates.{CountsMeet, GatesMeet, is_work_by, is_work_of, works_by}
-use Rattle.worker_play_laws.specs.Lines.{CountsAreOf, GatesCount, gives_work}
+use Rattle.play_worker.specs.Counts.{Counts, claims, is_claim}
+use Rattle.worker_play_laws.specs.Lines.{GatesCount}
 
 eq_swap : (a b : ℕ) → nat_eq a b ≡ (b == a)
 eq_swap a b = elim (cases_eq a b) [
@@ -34,53 +35,48 @@ nothing_more : (n : ℕ) → 0 + n ≡ n
 nothing_more n = omega arith
 
 module _ {S K C : Type 0} (see : Sight S K C) where
-  abbrev E : Type 0
-  E = Entry (Act S K C) (Reply S K C)
+  same_claim : (u : Unsaid) (number : ℕ) (h : Handle) (reply : Reply S K C) → is_work_of number (acts.Claim h) (plain_reply u reply) ≡ is_claim number (asks.Claim h) reply
+  same_claim u number h (replies.Claim (Ok (claimed.Work work))) = sym (eq_swap number h.generation)
+  same_claim u number h (replies.Claim (Ok claimed.Busy)) = refl
+  same_claim u number h (replies.Claim (Ok claimed.NotRunning)) = refl
+  same_claim u number h (replies.Claim (Ok claimed.Ended)) = refl
+  same_claim u number h (replies.Claim (Ok (claimed.Held port))) = refl
+  same_claim u number h (replies.Claim (Ok (claimed.NoData port))) = refl
+  same_claim u number h (replies.Claim (Ok (claimed.NoRoom port))) = refl
+  same_claim u number h (replies.Claim (Ok (claimed.Events room need))) = refl
+  same_claim u number h (replies.Claim (Err e)) = refl
+  same_claim u number h _ = refl
 
-  claims : (u : Unsaid) (number : ℕ) (h : Handle) (reply : Reply S K C) → is_work_of number (acts.Claim h) (plain_reply u reply) ≡ gives_work number (asks.Claim h) reply
-  claims u number h (replies.Claim (Ok (claimed.Work work))) = sym (eq_swap number h.generation)
-  claims u number h (replies.Claim (Ok claimed.Busy)) = refl
-  claims u number h (replies.Claim (Ok claimed.NotRunning)) = refl
-  claims u number h (replies.Claim (Ok claimed.Ended)) = refl
-  claims u number h (replies.Claim (Ok (claimed.Held port))) = refl
-  claims u number h (replies.Claim (Ok (claimed.NoData port))) = refl
-  claims u number h (replies.Claim (Ok (claimed.NoRoom port))) = refl
-  claims u number h (replies.Claim (Ok (claimed.Events room need))) = refl
-  claims u number h (replies.Claim (Err e)) = refl
-  claims u number h _ = refl
-
-  same_work : (u : Unsaid) (number : ℕ) (act : Act S K C) (reply : Reply S K C) → is_work_of number (plain_act see u act) (plain_reply u reply) ≡ gives_work number act reply
-  same_work u number (asks.Claim h) reply = claims u number h reply
+  same_work : (u : Unsaid) (number : ℕ) (act : Act S K C) (reply : Reply S K C) → is_work_of number (plain_act see u act) (plain_reply u reply) ≡ is_claim number act reply
+  same_work u number (asks.Claim h) reply = same_claim u number h reply
   same_work u number _ reply = refl
 
   works_are : (number pass : ℕ) (log : List (Entry (Asked S K C) (Told S K C))) (steps : List (acts.Act × acts.Reply)) → ArePlain see (bare_log log) steps
-      → count_by (λ (e : E). gives_work number e.act e.reply) (bare_log (own pass log)) ≡ works_by pass number (entries_of (bare_log log) steps)
+      → claims number (bare_log (own pass log)) ≡ works_by pass number (entries_of (bare_log log) steps)
   works_are number pass [] [] plain = refl
   works_are number pass [] (x ∷ xs) plain = absurd plain
   works_are number pass (e ∷ log) [] plain = absurd plain
   works_are number pass (e ∷ log) (x ∷ xs) plain =
-      let test = λ (y : E). gives_work number y.act y.reply in
       let rest = works_are number pass log xs plain.1 in
       let entry : LogEntry = log_entry (bare e) x in
       let others : List LogEntry = entries_of (bare_log log) xs in
-      let same : is_work_of number x.0 x.1 ≡ gives_work number e.act.act e.reply.reply =
+      let same : is_work_of number x.0 x.1 ≡ is_claim number e.act.act e.reply.reply =
       ap (λ (y : acts.Act × acts.Reply). is_work_of number y.0 y.1) (plain.0).1 ∙ same_work (plain.0).0 number e.act.act e.reply.reply in
       let more = count_more (is_work_by pass number) entry others in
       either (e.pass == pass)
       (λ t.
-      ap (λ (b : Bool). count_by test (bare_log (kept b e (own pass log)))) t
-      ∙ (count_more test (bare e) (bare_log (own pass log))
-      ∙ (ap (λ (n : ℕ). cond (gives_work number e.act.act e.reply.reply) 1 0 + n) rest
+      ap (λ (b : Bool). claims number (bare_log (kept b e (own pass log)))) t
+      ∙ (ap (λ (n : ℕ). cond (is_claim number e.act.act e.reply.reply) 1 0 + n) rest
       ∙ (ap (λ (b : Bool). cond b 1 0 + works_by pass number others) (sym same)
-      ∙ (ap (λ (b : Bool). cond (b && is_work_of number x.0 x.1) 1 0 + works_by pass number others) (sym t) ∙ sym more)))))
+      ∙ (ap (λ (b : Bool). cond (b && is_work_of number x.0 x.1) 1 0 + works_by pass number others) (sym t) ∙ sym more))))
       (λ f.
-      ap (λ (b : Bool). count_by test (bare_log (kept b e (own pass log)))) f
+      ap (λ (b : Bool). claims number (bare_log (kept b e (own pass log)))) f
       ∙ (rest
       ∙ (sym (nothing_more (works_by pass number others))
       ∙ (ap (λ (b : Bool). cond (b && is_work_of number x.0 x.1) 1 0 + works_by pass number others) (sym f) ∙ sym more))))
 
   module _ (log : List (Entry (Asked S K C) (Told S K C))) (steps : List (acts.Act × acts.Reply)) (plain : ArePlain see (bare_log log) steps) (components : ℕ) where
-    counts_meet : (counts : Option (ℕ → ℕ)) (pass : ℕ) → CountsAreOf counts (bare_log (own pass log)) → CountsMeet counts pass components (entries_of (bare_log log) steps)
+    counts_meet : (counts : Option (ℕ → ℕ)) (pass : ℕ) → Counts counts (bare_log (own pass log)) → CountsMeet counts pass components (entries_of (bare_log log) steps)
     counts_meet None pass A = tt
     counts_meet (Some count) pass A = λ number b. A number ∙ works_are number pass log steps plain
 

@@ -1,5 +1,5 @@
 -- A board's history as a log has it: each act with its reply as the machine knows them, and the pass that made it.
-use Rattle.std.specs.Prelude.{ℕ, List, [], ◌∷◌}
+use Rattle.std.specs.Prelude.{List, [], ◌∷◌}
 use Rattle.il_machine.specs.Acts as acts
 use Rattle.turnstile.specs.declared.entry.Entry.{Entry}
 use Rattle.play_log.specs.Entries.{Entry as LogEntry}

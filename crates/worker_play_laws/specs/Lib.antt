@@ -1,5 +1,4 @@
 pub mod Files
-pub mod Failing
 pub mod Leaving
 pub mod Entries
 pub mod Histories

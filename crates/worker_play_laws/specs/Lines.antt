@@ -1,11 +1,7 @@
 -- The lines of such a history, and what its gates count.
-use Rattle.std.specs.Prelude.{◌≡◌, ℕ, nat_eq, ◌+◌, ◌&&◌, Bool, false, All, List, [], ◌∷◌, map, count_by, Option, IfSome, MatchOption, is_some}
+use Rattle.std.specs.Prelude.{ℕ, ◌+◌, All, List, [], ◌∷◌, map, Option, IfSome}
 use Rattle.turnstile.specs.declared.entry.Entry.{Entry}
 use Rattle.turnstile.specs.Entries.{own}
-use Rattle.graph_acts.specs.declared.act.Act.{Act}
-use Rattle.graph_acts.specs.declared.act.Act.TheVariants as asks
-use Rattle.graph_acts.specs.declared.act.Reply.{Reply}
-use Rattle.graph_acts.specs.Working.{work_given}
 use Rattle.board.specs.declared.asked.Asked.{Asked}
 use Rattle.board.specs.declared.asked.Told.{Told}
 use Rattle.board.specs.Asking.{bare_log}
@@ -15,6 +11,7 @@ use Rattle.play_log.specs.Merged.{merged_all}
 use Rattle.play_log.specs.Places.{line_place}
 use Rattle.pass_lines.specs.Passes.{pass_of}
 use Rattle.pass_book.specs.Saying.{line_of}
+use Rattle.play_worker.specs.Counts.{Counts}
 
 module _ {S K C : Type 0} where
   -- each line is one of a log: its names are names, and its numbers are within their limits
@@ -25,16 +22,7 @@ module _ {S K C : Type 0} where
   abbrev pub merged_text : (ℕ → List ℕ) → ℕ → List (Entry (Asked S K C) (Told S K C)) → List ℕ
   merged_text names passes log = log_text (map (λ l. l.line) (merged_all line_place (lists_by pass_of (line_of names) 0 passes log)))
 
-  -- a claim gave a work of the component of that number
-  abbrev pub gives_work : ℕ → Act S K C → Reply S K C → Bool
-  gives_work number (asks.Claim h) reply = is_some (work_given reply) && nat_eq number h.generation
-  gives_work number _ reply = false
-
-  -- where the counts are told, that of each component is the number of the works that the pass with these calls was given
-  abbrev pub CountsAreOf : Option (ℕ → ℕ) → List (Entry (Act S K C) (Reply S K C)) → Type 0
-  CountsAreOf counts calls = MatchOption counts (Unit {0}) (λ count. (number : ℕ) → count number ≡ count_by (λ e. gives_work number e.act e.reply) calls)
-
-  -- so of each gate, from that pass on
+  -- each gate, from that pass on, counted the works that its pass was given, where it tells its counts
   abbrev pub GatesCount : {G : Type 0} → (G → Option (ℕ → ℕ)) → ℕ → List G → List (Entry (Asked S K C) (Told S K C)) → Type 0
   GatesCount counts pass [] log = Unit {0}
-  GatesCount counts pass (gate ∷ gates) log = CountsAreOf (counts gate) (bare_log (own pass log)) × GatesCount counts (pass + 1) gates log
+  GatesCount counts pass (gate ∷ gates) log = Counts (counts gate) (bare_log (own pass log)) × GatesCount counts (pass + 1) gates log

@@ -1,61 +1,29 @@
 //! What a play by workers leaves of its files. Stated on functions that do nothing.
 
-ghost use Rattle.std.specs.Prelude.{All, List, None, Option, Some, is_some, true, ◌<◌, ◌≡◌, ℕ, length};
+ghost use Rattle.std.specs.Prelude.{List, Option, ℕ};
 ghost use Rattle.omx_types.specs.declared.fault.PartFault.{PartFault};
 ghost use Rattle.il_machine.specs.Acts.{Act, Reply};
 ghost use Rattle.il_machine.specs.declared.answer.Progress.{Progress};
-ghost use Rattle.il_machine.specs.Run.{Run};
-ghost use Rattle.il_machine.specs.Sound.{Sound};
-ghost use Rattle.il_machine.specs.World.{Component, Stream, World, component_numbered, stream_of};
+ghost use Rattle.il_machine.specs.World.{World};
 ghost use Rattle.audio_parts.specs.declared.part_file.PartFile.{PartFile};
-ghost use Rattle.il_graph.specs.Shown.{Shown, TellWritten, file_of, offered};
+ghost use Rattle.il_graph.specs.Shown.{Shown};
 ghost use Rattle.play_forms.specs.Plain.{sink_text};
 ghost use Rattle.play_forms.specs.Plans.{PlanValue};
-ghost use Rattle.play_plan_laws.specs.Assemblies.{IsReady, PlayFiles};
+ghost use Rattle.play_plan_laws.specs.Assemblies.{PlayFiles};
 ghost use Rattle.play_plan_laws.specs.Endings.{IsPlayedOut};
 ghost use Rattle.play_result_laws.specs.Files.{AreSamples, IsWriter};
 ghost use Rattle.play_result_laws.specs.Results.{IsPlayLog};
 ghost use Rattle.play_result_laws.specs.Texts.{HasWrittenFront};
-ghost use Rattle.play_result_laws.specs.Worlds.{HasWritten, IsOpening};
+ghost use Rattle.play_result_laws.specs.Worlds.{HasWritten};
 ghost use Rattle.play_files.specs.Seen.{file_seen, files_seen};
-ghost use Rattle.play_graph.specs.Ending.{AreFilesOf};
-ghost use Rattle.play_graph.specs.Making.{AreOffered};
 ghost use Rattle.play_course.specs.declared.player.RunFault.{RunFault};
-ghost use Rattle.play_course.specs.Failing.{HasFailure, LeavesWorld, ShowsAt, TellsFirst};
+ghost use Rattle.play_course.specs.Failing.{HasFailure, LeavesWorld, TellsFirst};
 ghost use Rattle.play_course.specs.Players.{IsFailed, IsPlayedWhole};
 ghost use Rattle.play_course.specs.Running.{AreSameFiles, HasTaken, IsRunCause};
-ghost use Rattle.play_run.specs.Playing.{ToldAlike};
-ghost use Rattle.worker_play_laws.specs.Files.{HaveStayed, ShowsSince, is_steady};
-ghost use Rattle.worker_play_laws.specs.Leaving.{IsLeftWith, IsSteadyRun};
+ghost use Rattle.worker_play_laws.specs.Files.{ShowsSince};
+ghost use Rattle.worker_play_laws.specs.Leaving.{IsLeftWith};
 
 use outside_io::{Sink, Source};
-
-/// What each file told when it came stays along a run in which no component is made or freed, and no file comes.
-pub fn law_of_told_files()
-    ensures { (world after : World) (steps : List (Act × Reply)) → Sound world → All (λ step. is_steady step.0 ≡ true) steps → Run world steps after
-        → ToldAlike world after }
-{}
-
-/// Where the file objects of a graph stayed, which it had at first from these places, and went back to them: each file is at its place again,
-/// what was written to a sink it took, and where a step failed its component's file shows it. The graph had an object of each component of which a step fails.
-pub fn law_of_worked_files<S: Source, K: Sink>()
-    ensures same { (places : ℕ) (first now : Shown S K Progress) (entries back : List (Option (PartFile S K)))
-        → length entries ≡ places → length back ≡ places → AreFilesOf first places entries → AreFilesOf now places back → HaveStayed S.Source K.Sink first now
-        → AreSameFiles (files_seen (file_seen S.Source K.Sink) entries) (files_seen (file_seen S.Source K.Sink) back) }
-    ensures took { (plan : PlanValue) (given : PlayFiles) (first now : Shown S K Progress) (entries back : List (Option (PartFile S K))) (opening world : World)
-        → length entries ≡ length plan.parts → length back ≡ length plan.parts → AreFilesOf first (length plan.parts) entries → AreFilesOf now (length plan.parts) back
-        → HaveStayed S.Source K.Sink first now → AreOffered plan given (offered S.offset S.size S.told K.told) entries
-        → IsOpening plan given opening → ToldAlike opening world → TellWritten K.told now world
-        → (place : ℕ) (name : List ℕ) → IsWriter plan.parts place name → (component : Component) → component_numbered place world ≡ Some component → component.work ≡ None
-        → (stream : Stream) → stream_of place world ≡ Some stream
-        → HasTaken (files_seen (file_seen S.Source K.Sink) entries) (files_seen (file_seen S.Source K.Sink) back) place stream.written }
-    ensures shows { (places : ℕ) (first now : Shown S K Progress) (entries back : List (Option (PartFile S K)))
-        → AreFilesOf first places entries → AreFilesOf now places back → (place : ℕ) (fault : PartFault) → place < places → ShowsSince S.Source K.Sink first now place fault
-        → ShowsAt (files_seen (file_seen S.Source K.Sink) entries) (files_seen (file_seen S.Source K.Sink) back) place fault }
-    ensures object { (plan : PlanValue) (given : PlayFiles) (first : Shown S K Progress) (entries : List (Option (PartFile S K))) (steps : List (Act × Reply)) (world : World)
-        → IsReady plan given → AreOffered plan given (offered S.offset S.size S.told K.told) entries → AreFilesOf first (length plan.parts) entries
-        → IsSteadyRun plan given steps world → (place : ℕ) (why : PartFault) → HasFailure steps place why → is_some (file_of place first) ≡ true }
-{}
 
 /// Of a play that was stopped: each file is at its place again (`same`), and a sink took what was written to it (`took`). Where that is each
 /// sink's text, and the log is one of a play that is over, the play was done whole (`whole`); where it is a front of each, it failed so

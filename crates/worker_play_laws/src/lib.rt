@@ -8,7 +8,6 @@ mod board_files;
 mod board_gates;
 mod board_logs;
 mod board_plays;
-mod failures;
 mod left_files;
 
 pub use board_entries::law_of_board_entries;
@@ -17,5 +16,4 @@ pub use board_files::law_of_board_files;
 pub use board_gates::law_of_board_gates;
 pub use board_logs::law_of_board_logs;
 pub use board_plays::law_of_board_plays;
-pub use failures::{law_of_failed_places, law_of_failures};
-pub use left_files::{law_of_left_files, law_of_told_files, law_of_worked_files};
+pub use left_files::law_of_left_files;

@@ -8,7 +8,7 @@ ghost use Rattle.il_graph.specs.Shown.{Shown, TellWritten};
 ghost use Rattle.board.specs.Boards.{HasAllBack};
 ghost use Rattle.conducting_thread.specs.Seating.{AreSeatsFor};
 ghost use Rattle.play_build_laws.specs.Dismantling.{AreLinks};
-ghost use Rattle.play_forms.specs.Plans.{IsValid, PlanValue};
+ghost use Rattle.play_forms.specs.Plans.{PlanValue};
 ghost use Rattle.play_plan_laws.specs.Endings.{HasEnded, ends_of};
 ghost use Rattle.play_log.specs.Lines.{log_text};
 ghost use Rattle.play_log.specs.Merged.{merged_all};

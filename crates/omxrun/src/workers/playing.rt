@@ -1,6 +1,6 @@
 //! A play by workers, from its script to its log.
 
-ghost use Rattle.std.specs.Prelude.{◌≡◌, ◌≤◌, ℕ, List, All, IfErr, IfOk, IsTrue, OnOk, length};
+ghost use Rattle.std.specs.Prelude.{◌≤◌, ℕ, List, All, IfErr, IfOk, IsTrue, OnOk, length};
 ghost use Rattle.outside_io.specs.Files.{AbsencesStand, CountsStand, GoesOn};
 ghost use Rattle.script_lang.specs.PlayScripts.{IsPlayScript};
 ghost use Rattle.play_log.specs.Scenes.{HaveOwnNames};
@@ -11,16 +11,14 @@ ghost use Rattle.play_course.specs.Outcomes.{HoldsTold, IsDone, IsUndone};
 ghost use Rattle.play_course.specs.Players.{CanPlay};
 ghost use Rattle.play_course.specs.Settling.{parts_of};
 ghost use Rattle.play_worker.specs.Counts.{TellsZeros};
-ghost use Rattle.omxrun.specs.Answers.{IsRun};
 
 use crate::workers::running::play_plan;
 use audio_parts::PartFile;
 use omx_types::Fault;
 use outside_io::{Media, Sink, Source};
-use play_course::{Player, Ran, RunFault, Summary, close_run, log_fault, parts_of, summary_of};
+use play_course::{Ran, RunFault, Summary, close_run, log_fault, parts_of, summary_of};
 use play_files::{Opened, open_files};
-use play_log::{LogText, write_log};
-use play_run::OneThread;
+use play_log::write_log;
 use play_worker::Gate;
 use script_lang::{PartLine, Script};
 use std::alloc::Global;
@@ -28,30 +26,8 @@ use std::sync::Wait;
 use std::thread::Threads;
 use stream_plan::Plan;
 
-/// Plays a plan with its files by a worker for each gate, or on the calling thread where there is none. The gates come back where the play
+/// Plays a plan with its files by a worker for each gate. What is told of its sinks is known by the plan. The gates come back where the play
 /// was done whole.
-fn run_plan<S: Source + Send, K: Sink + Send, G: Gate + Send + Drop, R: Threads + Wait + Sync>(
-    rt: &R,
-    alloc: Global,
-    plan: Plan,
-    gates: Vec<G>,
-    files: &mut [Option<PartFile<S, K>>],
-) -> (Result<LogText, RunFault>, Vec<G>)
-    requires ready { CanPlay plan (files_seen (file_seen S.Source K.Sink) files.old) }
-    requires few { length gates.items ≤ 8 }
-    requires zeros { All (λ gate. TellsZeros (G.counts gate)) gates.items }
-    ensures { IsRun G.counts (length gates.items) plan (files_seen (file_seen S.Source K.Sink) files.old) (files_seen (file_seen S.Source K.Sink) files.new) result.0 result.1.items }
-{
-    if gates.is_empty() {
-        return (OneThread.run(alloc, plan, files), gates);
-    }
-    match play_plan(rt, alloc, &plan, gates, files) {
-        Ok((text, gates)) => (Ok(text), gates),
-        Err(fault) => (Err(fault), Vec::new(alloc)),
-    }
-}
-
-/// The same, with what is told of its sinks, which is known by the plan.
 fn run<S: Source + Send, K: Sink + Send, G: Gate + Send + Drop, R: Threads + Wait + Sync>(
     rt: &R,
     alloc: Global,
@@ -60,8 +36,7 @@ fn run<S: Source + Send, K: Sink + Send, G: Gate + Send + Drop, R: Threads + Wai
     files: &mut [Option<PartFile<S, K>>],
 ) -> (Result<Ran, RunFault>, Vec<G>)
     requires ready { CanPlay plan (files_seen (file_seen S.Source K.Sink) files.old) }
-    requires few { length gates.items ≤ 8 }
-    requires zeros { All (λ gate. TellsZeros (G.counts gate)) gates.items }
+    requires gates { (1 ≤ length gates.items) × (length gates.items ≤ 8) × All (λ gate. TellsZeros (G.counts gate)) gates.items }
     ensures { HasRun (length gates.items) (λ parts text. HaveOwnNames parts → GatesTellLog G.counts result.1.items parts text) plan
         (files_seen (file_seen S.Source K.Sink) files.old) (files_seen (file_seen S.Source K.Sink) files.new) result.0 }
 {
@@ -69,10 +44,9 @@ fn run<S: Source + Send, K: Sink + Send, G: Gate + Send + Drop, R: Threads + Wai
         Ok(summary) => summary,
         Err(_) => return (Err(RunFault::OutOfMemory), gates),
     };
-    let (ran, back) = run_plan(rt, alloc, plan, gates, files);
-    match ran {
-        Ok(text) => (Ok(Ran { text, summary }), back),
-        Err(fault) => (Err(fault), back),
+    match play_plan(rt, alloc, &plan, gates, files) {
+        Ok((text, back)) => (Ok(Ran { text, summary }), back),
+        Err(fault) => (Err(fault), Vec::new(alloc)),
     }
 }
 
@@ -86,8 +60,7 @@ fn run_and_close<M: Media, G: Gate + Send + Drop, R: Threads + Wait + Sync>(
     gates: Vec<G>,
 ) -> (Result<Ran, Fault>, Vec<G>)
     requires ready { CanPlay opened.plan (files_seen (file_seen M.Src.Source M.Snk.Sink) opened.files.items) }
-    requires few { length gates.items ≤ 8 }
-    requires zeros { All (λ gate. TellsZeros (G.counts gate)) gates.items }
+    requires gates { (1 ≤ length gates.items) × (length gates.items ≤ 8) × All (λ gate. TellsZeros (G.counts gate)) gates.items }
     ensures { HasEnded (length gates.items) (λ its text. HaveOwnNames its → GatesTellLog G.counts result.1.items its text) opened.plan parts.now
         (files_seen (file_seen M.Src.Source M.Snk.Sink) opened.files.items) (M.outside media.old) (M.outside media.new) result.0 }
 {
@@ -96,8 +69,8 @@ fn run_and_close<M: Media, G: Gate + Send + Drop, R: Threads + Wait + Sync>(
     (close_run(media, parts, files, ran), back)
 }
 
-/// Plays a script with a worker for each gate, at most eight, while the calling thread conducts; without a gate that thread plays. The gates
-/// come back in their order where the play was done whole; on a fault they are dropped. Of what is left see `play_course::play_script`.
+/// Plays a script with a worker for each gate, one to eight, while the calling thread conducts. The gates come back in their order where the
+/// play was done whole; on a fault they are dropped. Of what is left see `play_course::play_script`.
 pub fn play_workers<R: Threads + Wait + Sync, M: Media, G: Gate + Send + Drop>(
     rt: &R,
     alloc: Global,
@@ -107,7 +80,7 @@ pub fn play_workers<R: Threads + Wait + Sync, M: Media, G: Gate + Send + Drop>(
     gates: Vec<G>,
 ) -> Result<(Summary, Vec<G>), Fault>
     requires script { (name : List ℕ) × (text : List ℕ) × IsPlayScript name log.now text script.now }
-    requires few { length gates.items ≤ 8 }
+    requires few { (1 ≤ length gates.items) × (length gates.items ≤ 8) }
     requires zeros { All (λ gate. TellsZeros (G.counts gate)) gates.items }
     ensures goes_on { GoesOn (M.outside media.old) (M.outside media.new) }
     ensures done { IfOk result (λ done. IsDone (length gates.items) script.now log.now (M.outside media.old) (M.outside media.new) done.0) }

@@ -14,7 +14,7 @@ use stream_plan::Plan;
 use work_signs::{Seat, seats_of};
 
 /// The handles of the components, by their places.
-fn handles_of<S: Source, K: Sink>(graph: &Graph<S, K, PlayClient>, places: usize) -> [Handle; 32]
+fn handles_in<S: Source, K: Sink>(graph: &Graph<S, K, PlayClient>, places: usize) -> [Handle; 32]
     requires few { places ≤ 32 }
     requires made { (place : ℕ) → place < places → IsMade place graph.now }
     ensures { AreHandles graph.now places result }
@@ -37,7 +37,7 @@ pub(crate) fn seats_in<S: Source, K: Sink>(
     ensures { IfSome result (λ seats. AreSeated plan.now graph.now seats.items) }
 {
     let places = plan.parts().len();
-    let handles = handles_of(graph, places);
+    let handles = handles_in(graph, places);
     match seats_of(alloc, plan, &handles[..places]) {
         Ok(seats) => Some(seats),
         Err(_) => None,

@@ -1,9 +1,7 @@
-use Rattle.std.proofs.Common.{Bool, true, false, ℕ, ◌+◌, List, [], ◌∷◌, ◌++◌, length, map, take, drop, sym, subst, arith}
-use Rattle.std.proofs.lemmas.List.{take_all}
+use Rattle.std.proofs.Common.{false, ◌+◌, List, [], ◌∷◌, ◌++◌, map, take, drop, sym, subst}
 use Rattle.il_machine.specs.Acts as acts
 use Rattle.graph_acts.specs.Plain.{sight_of}
 use Rattle.board.specs.Boards.{own_calls}
-use Rattle.pass_book.specs.declared.quiet.QuietAct.{QuietAct}
 use Rattle.conducting_thread.specs.Asking.{AreAnswered, HasAsked, due}
 use Rattle.conducting_thread.proofs.Asked.{answered_more, answered_no_more, asked_more}
 use Rattle.conducting_thread.proofs.Lists.{around, one_more}

@@ -1,4 +1,4 @@
-use Rattle.std.proofs.Common.{Bool, true, false, ℕ, ◌+◌, List, [], ◌∷◌, ◌++◌, length, map, take, drop, sym, subst, arith}
+use Rattle.std.proofs.Common.{false, ◌+◌, List, [], ◌∷◌, ◌++◌, map, take, drop, sym, subst}
 use Rattle.omx_types.specs.declared.handle.Handle.{Handle}
 use Rattle.il_machine.specs.Acts as acts
 use Rattle.graph_acts.specs.Plain.{sight_of}

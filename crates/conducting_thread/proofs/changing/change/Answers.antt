@@ -2,7 +2,7 @@ use Rattle.std.proofs.Common.{All, map, sym, ◌∙◌, ap, subst}
 use Rattle.conducting_thread.specs.declared.link_ends.LinkEnds.{LinkEnds}
 use Rattle.conducting_thread.specs.Asking.{IsRequestOf, due}
 use Rattle.conducting_thread.specs.Changing.{change_acts}
-use Rattle.conducting_thread.specs.Seating.{handles_of}
+use Rattle.work_signs.specs.Seats.{handles_of}
 use Rattle.conducting_thread.proofs.Seats.{requests, steps_are}
 use Rattle.conducting_thread.proofs.changing.change.Goals as goal
 

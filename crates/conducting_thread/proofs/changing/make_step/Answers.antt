@@ -1,4 +1,4 @@
-use Rattle.std.proofs.Common.{Bool, List, [], ◌∷◌, All, map, sym, subst}
+use Rattle.std.proofs.Common.{List, [], ◌∷◌, All, map, sym, subst}
 use Rattle.conductor.specs.declared.phase.ChangeStep.{ChangeStep}
 use Rattle.graph_acts.specs.Plain.{sight_of}
 use Rattle.board.specs.Boards.{own_calls}

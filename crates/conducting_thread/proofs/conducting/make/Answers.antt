@@ -8,7 +8,7 @@ use Rattle.conductor.specs.declared.phase.Phase.{Phase}
 use Rattle.play_plan_laws.specs.Assemblies.{PlayFiles}
 use Rattle.play_result_laws.specs.Rounds.{AreMade}
 use Rattle.conducting_thread.specs.Asking.{AreAnswered}
-use Rattle.conducting_thread.specs.Seating.{handles_of}
+use Rattle.work_signs.specs.Seats.{handles_of}
 use Rattle.conducting_thread.proofs.Lists.{fused}
 use Rattle.conducting_thread.proofs.conducting.make.Goals as goal
 

@@ -1,9 +1,8 @@
-use Rattle.std.proofs.Common.{true, false, ◌∙◌, ap, ◌<◌, length, arith}
+use Rattle.std.proofs.Common.{true, false, ◌∙◌, ap, arith}
 use Rattle.play_forms.specs.declared.joint.Joint.{Joint}
-use Rattle.play_plan_laws.specs.Casting.{joint_of}
 use Rattle.play_build_laws.specs.Building.{no_handle}
 use Rattle.std.specs.Prelude.{slice_index_or}
-use Rattle.conducting_thread.specs.Seating.{handles_of}
+use Rattle.work_signs.specs.Seats.{handles_of}
 use Rattle.conducting_thread.proofs.Seats.{giver_there, handle_there, taker_there}
 use Rattle.conducting_thread.proofs.link_ends.ends_of.Goals as goal
 

@@ -1,11 +1,11 @@
-use Rattle.std.proofs.Common.{ℕ, List, [], ◌∷◌, ◌++◌, length, length-set, take, Ok, Err, ◌∙◌, subst}
+use Rattle.std.proofs.Common.{List, [], ◌∷◌, ◌++◌, length-set, take, Ok, Err, ◌∙◌, subst}
 use Rattle.il_machine.specs.Acts as acts
 use Rattle.play_result_laws.specs.Rounds.{looks}
 use Rattle.graph_acts.specs.Plain.{sight_of}
 use Rattle.board.specs.Boards.{own_calls}
 use Rattle.conducting_thread.specs.Asking.{HasAsked}
 use Rattle.conducting_thread.specs.Looking.{HasLost}
-use Rattle.conducting_thread.specs.Seating.{handles_of}
+use Rattle.work_signs.specs.Seats.{handles_of}
 use Rattle.conducting_thread.proofs.Asked.{asked_more}
 use Rattle.conducting_thread.proofs.Requests.{keeps_on}
 use Rattle.conducting_thread.proofs.Rounds.{for_none, looks_on, lost_look}

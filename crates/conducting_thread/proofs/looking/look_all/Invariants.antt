@@ -3,7 +3,7 @@ use Rattle.play_result_laws.specs.Rounds.{looks}
 use Rattle.graph_acts.specs.Plain.{sight_of}
 use Rattle.board.specs.Boards.{own_calls}
 use Rattle.conducting_thread.specs.Asking.{HasAsked, Keeps}
-use Rattle.conducting_thread.specs.Seating.{handles_of}
+use Rattle.work_signs.specs.Seats.{handles_of}
 use Rattle.conducting_thread.proofs.looking.look_all.Given as goal
 
 abbrev pub invariant-loop-place : goal.invariant-loop-place

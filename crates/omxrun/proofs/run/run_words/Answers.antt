@@ -10,6 +10,9 @@ use Rattle.omxrun.proofs.run.run_words.Goals as goal
 
 -- ---- words that are none of the forms
 
+pub returns-in-None-clause-run : goal.returns-in-None-clause-run
+returns-in-None-clause-run g c = λ asked words. absurd (c.in-None.ensures.none asked words)
+
 pub returns-in-None-clause-trace : goal.returns-in-None-clause-trace
 returns-in-None-clause-trace g c = λ script words. absurd (c.in-None.ensures.none (to_trace script) words)
 
@@ -68,6 +71,10 @@ returns-in-None-clause-complete_unpack g c = λ input output answer words none c
 
 pub returns-in-Some-clause-usage : goal.returns-in-Some-clause-usage
 returns-in-Some-clause-usage g c = λ none. absurd (none (asked_by c.in-Some.command) c.in-Some.ensures.some)
+
+pub returns-in-Some-clause-run : goal.returns-in-Some-clause-run
+returns-in-Some-clause-run g c = λ asked words.
+    run-asked (map string_bytes c.args.words.now) asked (g.M.Media.outside c.args.media.now) (g.M.Media.outside c.run_command.new.media) (g.O.Sink.told c.args.out.now) (g.O.Sink.told c.run_command.new.out) (g.O.Sink.faults c.args.out.now) (g.O.Sink.faults c.run_command.new.out) c.run_command.result (asked_by c.in-Some.command) c.in-Some.ensures.some c.run_command.ensures.run words
 
 pub returns-in-Some-clause-trace : goal.returns-in-Some-clause-trace
 returns-in-Some-clause-trace g c = λ script words.

@@ -1,9 +1,7 @@
 -- The act of each line is the one that it asks for, by what its names stand for.
-use Rattle.std.proofs.Common.{List}
 use Rattle.il_machine.specs.Acts as acts
-use Rattle.il_machine.specs.Whole.{Steps}
-use Rattle.trace_run.specs.Naming.{NamedHeader, handle_in, port_in}
-use Rattle.trace_run.specs.Standing.{graph_kept, AskReplied}
+use Rattle.trace_run.specs.Naming.{handle_in, port_in}
+use Rattle.trace_run.specs.Standing.{graph_kept}
 use Rattle.trace_run.proofs.Replying.{at_name, as_asked}
 use Rattle.trace_run.proofs.asking.ask.Goals as goal
 

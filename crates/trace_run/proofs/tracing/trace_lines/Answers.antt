@@ -4,6 +4,7 @@ use Rattle.omx_types.specs.declared.fault.Fault.TheVariants.{WriteFault}
 use Rattle.outside_io.specs.Causes.{Rose}
 use Rattle.script_lang.specs.declared.script.Script.TheVariants.{Trace}
 use Rattle.il_graph.specs.Shown.{look_of}
+use Rattle.trace_run.specs.Desks.{on_desk}
 use Rattle.trace_run.specs.Traced.{beginning, IsStopped}
 use Rattle.trace_run.proofs.Freeing.{all_in}
 use Rattle.trace_run.proofs.Written.{err_then, ok_so, got_trace, end_broken, lines_broken}
@@ -35,7 +36,7 @@ returns-in-Err-clause-stopped g c =
     let new = g.O.Sink.told c.write_lines-written.new.out in
     let before = g.O.Sink.faults c.args.out.now in
     let after = g.O.Sink.faults c.write_lines-written.new.out in
-    lines_broken (look_of c.in-Ok.desk.graph).key c.args.units c.args.lines.now old new before after c.in-Err.fault (c.in-Err.ensures.broken (beginning (look_of c.in-Ok.desk.graph).key c.args.units) c.in-Ok.ensures)
+    lines_broken (look_of c.in-Ok.desk.graph).key c.args.units c.args.lines.now (on_desk c.write_lines-written.new.desk) old new before after c.in-Err.fault (c.in-Err.ensures.broken (beginning (look_of c.in-Ok.desk.graph).key c.args.units) c.in-Ok.ensures)
 
 pub close-requires : goal.close-requires
 close-requires g c = all_in c.give_back-graph.result c.give_back-graph.ensures c.law_of_worlds.ensures.files

@@ -11,7 +11,7 @@ invariant-loop-place g l =
     let now = on_desk l.desk in
     record {
       stood : HasDeskMoment now;
-      carries : Carries from now (take l.place l.lines) (g.O.Sink.told l.initial.out) (g.O.Sink.told l.out);
+      carries : Carries from now (take l.place l.lines) l.waiting.items (g.O.Sink.told l.initial.out) (g.O.Sink.told l.out);
       later : g.O.Sink.faults l.initial.out ≤ g.O.Sink.faults l.out;
       stays : g.O.Sink.faults l.out ≡ g.O.Sink.faults l.initial.out;
       name : g.O.Sink.name l.out ≡ g.O.Sink.name l.initial.out;

@@ -3,7 +3,7 @@ use Rattle.std.proofs.lemmas.List.{length-map, length-take-le}
 use Rattle.graph_acts.specs.Plain.{sight_of}
 use Rattle.conductor.specs.Hearing.{heard}
 use Rattle.work_signs.specs.declared.seat.Seat.{Seat}
-use Rattle.conducting_thread.specs.Seating.{handles_of}
+use Rattle.work_signs.specs.Seats.{handles_of}
 use Rattle.conducting_thread.proofs.Passing.{after_loss, after_refusal, after_round, goes_after}
 use Rattle.conducting_thread.proofs.conducting.ConductingPass.conduct_once.Goals as goal
 

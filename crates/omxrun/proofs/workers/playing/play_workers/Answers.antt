@@ -34,6 +34,9 @@ run_and_close-ran-requires-clause-ready g c = λ κs within.
     can_play (file_seen g.M.Src.Source g.M.Snk.Sink) c.args.script.now R.0 c.args.log.now (g.M.Media.outside c.args.media.now) (g.M.Media.outside c.open_files.new.media) plan c.in-Ok.opened.files.items O
     (its_names R.0 c.args.log.now R.1 c.args.script.now O.planned plan.parts R.2 O.is_plan (O.fitted).parts)
 
+pub run_and_close-ran-requires-clause-gates : goal.run_and_close-ran-requires-clause-gates
+run_and_close-ran-requires-clause-gates g c = λ κs within. (c.requires.few.0, c.requires.few.1, c.requires.zeros)
+
 pub returns-in-Err-ran-clause-undone : goal.returns-in-Err-ran-clause-undone
 returns-in-Err-ran-clause-undone g c =
     let seen = file_seen g.M.Src.Source g.M.Snk.Sink in

@@ -1,9 +1,8 @@
-use Rattle.std.proofs.Common.{◌≡◌, ℕ, List, length, Option, ◌∙◌, sym, subst, arith}
+use Rattle.std.proofs.Common.{ℕ, List, length, Option, ◌∙◌, sym, subst, arith}
 use Rattle.audio_parts.specs.declared.part_file.PartFile.{PartFile}
 use Rattle.il_machine.specs.declared.answer.Progress.{Progress}
 use Rattle.il_graph.specs.Shown.{Shown}
 use Rattle.conducting_thread.specs.Seating.{AreSeatsFor}
-use Rattle.work_signs.specs.declared.seat.Seat.{Seat}
 use Rattle.play_run.proofs.ThreadFiles.{are_offered}
 use Rattle.play_graph.specs.Ending.{AreFilesOf, StandsFor}
 use Rattle.play_graph.specs.Stops.{HasStopped}

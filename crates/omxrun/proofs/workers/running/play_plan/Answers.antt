@@ -1,4 +1,4 @@
-use Rattle.std.proofs.Common.{◌≡◌, List, length, Option, option_map, ◌∙◌, sym, subst, ap}
+use Rattle.std.proofs.Common.{List, length, Option, option_map, ◌∙◌, sym}
 use Rattle.std.proofs.lemmas.List.{length-map}
 use Rattle.audio_parts.specs.declared.part_file.PartFile.{PartFile}
 use Rattle.play_files.specs.Seen.{file_seen}

@@ -1,0 +1,6 @@
+pub mod Answered
+pub mod Forms
+pub mod Numbered
+pub mod OneEnd
+pub mod Refusals
+pub mod Vacant
