@@ -139,7 +139,7 @@ def cut(size):
 
 
 usage = ('usage: trace SCRIPT | play SCRIPT WORKERS LOG | make SEED FRAMES DIR | pack WAV PACKETS '
-         '| unpack PACKETS WAV | clock SCRIPT\n', 2)
+         '| unpack PACKETS WAV | clock SCRIPT | audit SCRIPT LOG\n', 2)
 unread, unwritten, silent = ('read fault\n', 4), ('write fault\n', 5), ('', 5)
 # a file may have so many KiB: a write above it fails under the wrapper, which ignores the signal, and ends the bare program
 limit = 'ulimit -c 0; ulimit -f'
@@ -148,6 +148,11 @@ make_minute = 'omxrun make 1 480000 folder >made && rm made &&'
 cut_while_played = '''mkfifo folder/out.wav
 { omxrun play folder/mix.omx $workers log; s=$?; : >folder/out.wav; exit $s; } & exec 4<folder/out.wav
 truncate -s 500001 folder/a.wav; cat <&4 >got; wait $!; s=$?; rm folder/out.wav; exit $s'''
+# what a short play leaves
+played = 'omxrun play short.omx 0 log >told && rm told &&'
+left = {'out.wav': short, 'log': ends}
+# the number of acts left aside
+counted = "| sed 's/[0-9][0-9]*/N/'; exit ${PIPESTATUS[0]}"
 # a pipe whose reader has ended
 unheard = 'exec 3> >(true); wait $!;'
 
@@ -196,6 +201,35 @@ cases = [
     ('a source that is too large', 'truncate -s 67108865 large.wav; omxrun play large.omx 0 log; s=$?; rm large.wav; exit $s',
      ('line 2: larger than 67108864 bytes\n', 3), {}),
     ('too many blocks', 'omxrun play more-blocks.omx 0 log', ('script line 48: too many blocks\n', 1), {}),
+    ('a check', f'{played} omxrun audit short.omx log', ('yes 48 acts\n', 0), left),
+    ('a check of a play by two workers', f'omxrun play short.omx 2 log >told && rm told && omxrun audit short.omx log {counted}',
+     ('yes N acts\n', 0), left),
+    ('a check with no sink', 'omxrun audit short.omx log', ('absent: line 3\n', 6), {}),
+    ('a check with no log', f'{played} rm log; omxrun audit short.omx log', ('absent: log\n', 6), left | {'log': None}),
+    ('a check with no script', 'omxrun audit none log', ('absent: script\n', 6), {}),
+    ('a check with no source', f'{played} rm short.wav; omxrun audit short.omx log', ('absent: line 2\n', 6), left | {'short.wav': None}),
+    ('a check of a log in no folder', f'{played} omxrun audit short.omx none/log', ('absent: log\n', 6), left),
+    ('a check whose script is a folder', 'omxrun audit folder log', unread, {}),
+    ('a check whose source is a folder', 'omxrun audit from-folder.omx log', unread, {}),
+    ('a check whose sink is a folder', f'{played} omxrun audit to-folder.omx log', unread, left),
+    ('a check whose log is a folder', f'{played} omxrun audit short.omx folder', unread, left),
+    ('a check whose script is a trace', 'omxrun audit trace.omx log', ('script line 1: first line\n', 1), {}),
+    ('a check of an earlier log', f'{played} echo "an earlier log" >log; omxrun audit short.omx log',
+     ('no: log line 1: not canonical\n', 12), left | {'log': b'an earlier log\n'}),
+    ('a check of the script as a log', f'{played} omxrun audit short.omx short.omx', ('no: log line 1: not canonical\n', 12), left),
+    ('a check of an end alone', f'{played} echo end >log; omxrun audit short.omx log', ('no: log line 1: not ended\n', 12),
+     left | {'log': b'end\n'}),
+    ('a check of an empty log', f'{played} : >log; omxrun audit short.omx log', ('no: log line 1: not ended\n', 12), left | {'log': b''}),
+    ('a check of a log without its first claim', f"{played} sed -i '0,/ claim /{{/ claim /d}}' log; "
+     "awk '$0 != \"end\" {$1 = NR} 1' log >new; mv new log; omxrun audit short.omx log", ('no: log line 18: not out\n', 12),
+     left | {'log': ends}),
+    ('a check of a sink that was cut', f'{played} truncate -s 49 out.wav; omxrun audit short.omx log',
+     ('no: log line 25: other file\n', 12), left | {'out.wav': short[:49]}),
+    ('a check printed on a full disk', f'{played} omxrun audit short.omx log >/dev/full', silent, left),
+    ('a check that nobody reads', f'{played} {unheard} omxrun audit short.omx log >&3', silent, left),
+    ('a made minute that is checked', f'{make_minute} omxrun play folder/mix.omx 4 log >told && rm told && '
+     f'omxrun audit folder/mix.omx log {counted}', ('yes N acts\n', 0),
+     minute | {'folder/mix.omx': mix, 'folder/out.wav': minute_out, 'log': ends}),
     ('no words', 'omxrun', usage, {}),
     ('nine workers', 'omxrun play short.omx 9 log', usage, {}),
     ('a leading zero', 'omxrun play short.omx 00 log', usage, {}),

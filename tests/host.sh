@@ -1,8 +1,8 @@
 #!/usr/bin/env bash
 # Plays three samples, and a made minute, with the built program over a host one of whose calls on one file fails, or whose file ends
 # before its size, without workers and with three, the minute with one and with eight too, and compares what is printed, the status,
-# the sink and the log with what the rules say. The earlier log stays where none is made. Needs a C compiler for the small library
-# that fails.
+# the sink and the log with what the rules say. The earlier log stays where none is made. Then checks the logs of both plays over such a
+# host, which changes no file. Needs a C compiler for the small library that fails.
 # Its last line is 'host: N passed, M failed'.
 . "$(dirname "${BASH_SOURCE[0]}")/program.sh"
 if ! command -v cc >/dev/null; then
@@ -24,8 +24,8 @@ front = empty + begun + whole
 absent = ['absent']
 
 
-def short(place, size):
-    return b'short: line 2 at %d of %d\n' % (place, size), 8
+def short(place, size, which=b'line 2'):
+    return b'short: %s at %d of %d\n' % (which, place, size), 8
 
 
 # the play; the kind of the call that fails, its number or the place of the end, and the file; what is told; and what the sink's
@@ -47,15 +47,20 @@ cases = [
 numbers_of_workers = {'three': (0, 3), 'minute': (0, 1, 3, 8)}
 
 
+def run(folder, words, fault=None):
+    """What the program prints in a folder, and its status."""
+    failing = {} if fault is None else {'LD_PRELOAD': f'{room}/fail.so', 'FAIL_KIND': fault[0], 'FAIL_NUMBER': str(fault[1]),
+                                        'FAIL_NAME': fault[2]}
+    ran = subprocess.run([program, *words], cwd=folder, env=os.environ | failing, stdin=subprocess.DEVNULL, stdout=subprocess.PIPE,
+                         stderr=subprocess.DEVNULL, timeout=60)
+    return ran.stdout, ran.returncode
+
+
 def play(folder, script, workers=0, fault=None):
     """What the play in a folder prints and its status, and the log."""
     with open(f'{folder}/log', 'wb') as log:
         log.write(earlier)
-    failing = {} if fault is None else {'LD_PRELOAD': f'{room}/fail.so', 'FAIL_KIND': fault[0], 'FAIL_NUMBER': str(fault[1]),
-                                        'FAIL_NAME': fault[2]}
-    ran = subprocess.run([program, 'play', script, str(workers), 'log'], cwd=folder, env=os.environ | failing, stdin=subprocess.DEVNULL,
-                         stdout=subprocess.PIPE, stderr=subprocess.DEVNULL, timeout=60)
-    return (ran.stdout, ran.returncode), open(f'{folder}/log', 'rb').read()
+    return run(folder, ['play', script, str(workers), 'log'], fault), open(f'{folder}/log', 'rb').read()
 
 
 def extent(sink, all_of_it):
@@ -100,6 +105,43 @@ for (name, kind, number, file, told, left), workers in ((case, it) for case in c
     else:
         bad += 1
         print(f'{name}, {kind} {number} of {file}, {workers} workers: wanted {told}, {left}, got {got}, {has}, and the log {log[:20]!r}')
+# the same of checks, where each file is there
+for name, (script, sink) in scripts.items():
+    play(f'{room}/{name}', script)
+script_size, log_size = (os.path.getsize(f'{room}/three/{it}') for it in ('play.omx', 'log'))
+audits = [
+    ('three', 'open', 1, 'play.omx', unread),
+    ('three', 'read', 1, 'play.omx', unread),
+    ('three', 'end', 20, 'play.omx', short(20, script_size, b'script')),
+    ('three', 'open', 1, 'in.wav', unread),
+    ('three', 'read', 1, 'in.wav', unread),
+    ('three', 'end', 20, 'in.wav', short(20, 50)),
+    ('three', 'end', 46, 'in.wav', short(46, 50)),
+    ('three', 'open', 1, 'out.wav', unread),
+    ('three', 'read', 1, 'out.wav', unread),
+    ('three', 'end', 20, 'out.wav', short(20, 50, b'line 3')),
+    ('three', 'open', 1, 'log', unread),
+    ('three', 'read', 1, 'log', unread),
+    ('three', 'end', 100, 'log', short(100, log_size, b'log')),
+    ('minute', 'read', 5, 'w/a.wav', unread),
+    ('minute', 'end', 100000, 'w/a.wav', short(100000, 960044)),
+    ('minute', 'read', 3, 'w/out.wav', unread),
+    ('minute', 'end', 100000, 'w/out.wav', short(100000, 480058, b'line 7')),
+]
+
+
+def files_below(folder):
+    return {it: content(os.path.join(at, it)) for at, _, names in os.walk(folder) for it in names}
+
+
+for name, kind, number, file, told in audits:
+    before = files_below(f'{room}/{name}')
+    got = run(f'{room}/{name}', ['audit', scripts[name][0], 'log'], (kind, number, file))
+    if got == told and files_below(f'{room}/{name}') == before:
+        good += 1
+    else:
+        bad += 1
+        print(f'a check of {name}, {kind} {number} of {file}: wanted {told}, got {got}')
 print(f'host: {good} passed, {bad} failed')
 sys.exit(bad > 0)
 PY

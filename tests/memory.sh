@@ -3,7 +3,8 @@
 # as often as each takes memory, and refuses another allocation each time: the play is told `out of memory`, status 7, leaves the log
 # of an earlier play as it is, and of its sink's file nothing or a prefix; and of the first two, one that is refused a line of its log in
 # the midst of its samples stops with less than the whole. Workers can take memory fewer times than before, and do without a thread that
-# can't be made: then the play is whole. Needs a C compiler for the small library that refuses. Its last line is 'memory: N passed, M failed'.
+# can't be made: then the play is whole. Then checks the log of the mix so, which is told `out of memory` and changes no file, or gets its
+# yes. Needs a C compiler for the small library that refuses. Its last line is 'memory: N passed, M failed'.
 . "$(dirname "${BASH_SOURCE[0]}")/program.sh"
 if ! command -v cc >/dev/null; then
   echo 'memory: not run, there is no cc'
@@ -63,6 +64,31 @@ for script, sources, sink, workers, stops in plays:
     if stops and not stopped:
         print(f'{script}, {workers} workers: no refused allocation stopped the run')
         bad += 1
+
+
+def checked(folder, refused):
+    """What a check in the folder prints, its status, and how much memory it asked for."""
+    said = {'LD_PRELOAD': f'{room}/fail.so', 'FAIL_ALLOC': str(refused), 'COUNT_ALLOC': f'{room}/count'}
+    ran = subprocess.run([program, 'audit', 'mix.omx', 'log'], cwd=folder, env=os.environ | said, stdout=subprocess.PIPE, timeout=60)
+    return ran.stdout, ran.returncode, int(open(f'{room}/count').read())
+
+
+folder = f'{room}/checked'
+os.mkdir(folder)
+for name in ('mix.omx', 'low.wav', 'high.wav'):
+    shutil.copy(f'{top}/examples/play/{name}', folder)
+subprocess.run([program, 'play', 'mix.omx', '0', 'log'], cwd=folder, stdout=subprocess.DEVNULL, check=True, timeout=60)
+left = {name: open(f'{folder}/{name}', 'rb').read() for name in os.listdir(folder)}
+told, status, most = checked(folder, 0)
+if (told, status) != (b'yes %d acts\n' % (left['log'].count(b'\n') - 1), 0):
+    print(f'the check of the mix: {told!r}, status {status}')
+    bad += 1
+for number in range(1, most + 1):
+    printed, status, _ = checked(folder, number)
+    is_good = (printed, status) == (b'out of memory\n', 7) and {name: open(f'{folder}/{name}', 'rb').read() for name in os.listdir(folder)} == left
+    good, bad = good + is_good, bad + (not is_good)
+    if not is_good:
+        print(f'the check of the mix, allocation {number}: {printed!r}, status {status}')
 print(f'memory: {good} passed, {bad} failed')
 sys.exit(bad > 0)
 PY

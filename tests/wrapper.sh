@@ -34,7 +34,7 @@ same() {
 }
 
 cd "$room"
-for words in '' '--help' 'plya x 0 log' 'trace' 'trace x y' 'play x 0' 'play x 0 log log' 'pack x' 'make 1 1'; do
+for words in '' '--help' 'plya x 0 log' 'trace' 'trace x y' 'play x 0' 'play x 0 log log' 'pack x' 'audit x' 'make 1 1'; do
   same 'the wrapper' "$top/omxrun" $words
   same 'where nothing is built' "$room/bare/omxrun" $words
 done

@@ -1,6 +1,6 @@
 //! A file, and how far what was given is its bytes.
 
-ghost use Rattle.std.specs.Prelude.{◌≡◌, [], None, IsTrue, IsFalse};
+ghost use Rattle.std.specs.Prelude.{◌≡◌, [], None, IsTrue, IsFalse, length};
 ghost use Rattle.outside_io.specs.Moves.{WhereTold};
 ghost use Rattle.compared_files.specs.Comparing.{HasMet, IsFrontless, given_by, told_by};
 
@@ -79,7 +79,9 @@ impl<S: Source> Comparing<S> {
         ensures met { result ≡ self.now.met }
         ensures cause { HasMet (S.faults self.now.src) (S.size self.now.src) (S.ends self.now.src) result }
         ensures unmet { result ≡ None → self.now.failed ≡ 0 }
+        ensures whole { WhereTold (S.told self.now.src) (λ known. S.size self.now.src ≡ length known) }
     {
+        let _size = self.src.size();
         self.met
     }
 

@@ -3,7 +3,7 @@ use Rattle.std.proofs.Common.{◌≡◌, ℕ, ◌<◌, ◌^◌, List, [], ◌∷
 use Rattle.std.specs.Fmt.{decimal}
 use Rattle.std.specs.Str.Parse.{digits_value}
 use Rattle.std.proofs.lemmas.Fmt.{decimal_is_IsNumeral}
-use Rattle.omxrun.specs.Words.{Asked, to_trace, to_play, to_make, to_clock, to_pack, to_unpack, AreWordsOf, AreNoForm, IsAllowed, words_for, IsPlay, IsMake}
+use Rattle.omxrun.specs.Words.{Asked, to_trace, to_play, to_make, to_clock, to_pack, to_unpack, to_audit, AreWordsOf, AreNoForm, IsAllowed, words_for, IsPlay, IsMake}
 
 -- the first byte of the first word
 abbrev first_byte : List (List ℕ) → ℕ
@@ -37,6 +37,7 @@ no_play script workers log fits none (to_make seed frames folder) (same, _) =
 no_play script workers log fits none (to_clock other) (same, _) = cc
 no_play script workers log fits none (to_pack i o) (same, _) = cc
 no_play script workers log fits none (to_unpack i o) (same, _) = cc
+no_play script workers log fits none (to_audit s l) (same, _) = cc
 
 pub no_make : (seed frames : ℕ) (folder : List ℕ) → seed < 2 ^ 64 → frames < 2 ^ 64 → (IsMake seed frames folder → ⊥) → AreNoForm (codes "make" ∷ decimal seed ∷ decimal frames ∷ folder ∷ [])
 no_make seed frames folder fits_seed fits_frames none (to_trace other) (same, _) = cc
@@ -45,6 +46,7 @@ no_make seed frames folder fits_seed fits_frames none (to_play s w l) (same, _) 
 no_make seed frames folder fits_seed fits_frames none (to_clock other) (same, _) = cc
 no_make seed frames folder fits_seed fits_frames none (to_pack i o) (same, _) = cc
 no_make seed frames folder fits_seed fits_frames none (to_unpack i o) (same, _) = cc
+no_make seed frames folder fits_seed fits_frames none (to_audit s l) (same, _) = cc
 no_make seed frames folder fits_seed fits_frames none (to_make s f d) (same, is) =
     let seed_numeral : decimal s ≡ decimal seed = cc in
     let frames_numeral : decimal f ≡ decimal frames = cc in
@@ -71,6 +73,12 @@ one-unpack input other output more same =
     let input_is : input ≡ other = cc in
     let output_is : output ≡ more = cc in
     ap (λ (i : List ℕ). to_unpack i output) input_is ∙ ap (to_unpack other) output_is
+
+one-audit : (script other log more : List ℕ) → words_for (to_audit script log) ≡ words_for (to_audit other more) → to_audit script log ≡ to_audit other more
+one-audit script other log more same =
+    let script_is : script ≡ other = cc in
+    let log_is : log ≡ more = cc in
+    ap (λ (s : List ℕ). to_audit s log) script_is ∙ ap (to_audit other) log_is
 
 one-play : (script other : List ℕ) (workers count : ℕ) (log more : List ℕ) → IsPlay script workers log → IsPlay other count more → words_for (to_play script workers log) ≡ words_for (to_play other count more) → to_play script workers log ≡ to_play other count more
 one-play script other workers count log more is also same =
@@ -126,6 +134,19 @@ same-words (to_unpack input output) (to_play other count more) is also same = ab
 same-words (to_unpack input output) (to_make other_seed other_frames other) is also same = absurd (apart 109 117 _ _ (omega arith) refl refl (sym (ap first_byte same)))
 same-words (to_unpack input output) (to_clock other) is also same = absurd (apart 99 117 _ _ (omega arith) refl refl (sym (ap first_byte same)))
 same-words (to_unpack input output) (to_pack other more) is also same = absurd (apart 112 117 _ _ (omega arith) refl refl (sym (ap first_byte same)))
+same-words (to_audit script log) (to_audit other more) is also same = one-audit script other log more same
+same-words (to_trace script) (to_audit other more) is also same = absurd (apart 97 116 _ _ (omega arith) refl refl (sym (ap first_byte same)))
+same-words (to_audit script log) (to_trace other) is also same = absurd (apart 97 116 _ _ (omega arith) refl refl (ap first_byte same))
+same-words (to_play script workers log) (to_audit other more) is also same = absurd (apart 97 112 _ _ (omega arith) refl refl (sym (ap first_byte same)))
+same-words (to_audit script log) (to_play other count more) is also same = absurd (apart 97 112 _ _ (omega arith) refl refl (ap first_byte same))
+same-words (to_make seed frames folder) (to_audit other more) is also same = absurd (apart 97 109 _ _ (omega arith) refl refl (sym (ap first_byte same)))
+same-words (to_audit script log) (to_make other_seed other_frames other) is also same = absurd (apart 97 109 _ _ (omega arith) refl refl (ap first_byte same))
+same-words (to_clock script) (to_audit other more) is also same = absurd (apart 97 99 _ _ (omega arith) refl refl (sym (ap first_byte same)))
+same-words (to_audit script log) (to_clock other) is also same = absurd (apart 97 99 _ _ (omega arith) refl refl (ap first_byte same))
+same-words (to_pack input output) (to_audit other more) is also same = absurd (apart 97 112 _ _ (omega arith) refl refl (sym (ap first_byte same)))
+same-words (to_audit script log) (to_pack other more) is also same = absurd (apart 97 112 _ _ (omega arith) refl refl (ap first_byte same))
+same-words (to_unpack input output) (to_audit other more) is also same = absurd (apart 97 117 _ _ (omega arith) refl refl (sym (ap first_byte same)))
+same-words (to_audit script log) (to_unpack other more) is also same = absurd (apart 97 117 _ _ (omega arith) refl refl (ap first_byte same))
 
 pub one-asked : (words : List (List ℕ)) (one other : Asked) → AreWordsOf words one → AreWordsOf words other → one ≡ other
 one-asked words one other (is, allowed) (also, other_allowed) = same-words one other allowed other_allowed (sym is ∙ also)

@@ -24,3 +24,7 @@ pub mod Led
 pub mod Broken
 pub mod OwnNames
 pub mod Ran
+pub mod Verdicts
+pub mod Audits
+pub mod AuditEnds
+pub mod SourceNames

@@ -56,7 +56,7 @@ FaultsOnce = (units : ℕ) (parts : List PartLine) (joints : List Joint) (fault 
 ok-same : (a b : PlayBefore) (one other : Result PlayBefore ScriptFault) → one ≡ Ok a → other ≡ Ok b → one ≡ other → a ≡ b
 ok-same a b one other p q same = let e : Ok a ≡ Ok b = sym p ∙ (same ∙ q) in cc
 
-one-script : PlayOnce → (name log text : List ℕ) (a b : Script) → IsPlayScript name log text a → IsPlayScript name log text b → a ≡ b
+pub one-script : PlayOnce → (name log text : List ℕ) (a b : Script) → IsPlayScript name log text a → IsPlayScript name log text b → a ≡ b
 one-script once name log text a b (x, reads, is) (y, also, it) =
     let e : x ≡ y = ok-same x y (Ok x) (Ok y) refl refl (once name log text (Ok x) (Ok y) reads also) in
     let same = sym it in
@@ -75,9 +75,9 @@ shape-last once (Play units parts links) plan why is fault = once units parts li
 shape-last once (Trace units lines) plan why is fault = absurd is
 
 -- no count rose
-record IsCalm (old new : Outside) : Type 0 where
-  read : Rose old.read_faults new.read_faults → ⊥
-  write : Rose old.write_faults new.write_faults → ⊥
+pub record IsCalm (old new : Outside) : Type 0 where
+  pub read : Rose old.read_faults new.read_faults → ⊥
+  pub write : Rose old.write_faults new.write_faults → ⊥
 
 -- ---- one file
 
@@ -94,7 +94,7 @@ short-given old name bytes at size given tells is =
     let told = S.whole in
     omega (arith, end, same, below, all, long, told)
 
-sound-last : ReadsOnce → (line : ℕ) (name : List ℕ) (old new : Outside) (fault : Fault) → IsTrue old.tells → IsCalm old new → IsSound old name → IsSourceFault line name old new fault → fault ≡ Faults.OutOfMemory
+pub sound-last : ReadsOnce → (line : ℕ) (name : List ℕ) (old new : Outside) (fault : Fault) → IsTrue old.tells → IsCalm old new → IsSound old name → IsSourceFault line name old new fault → fault ≡ Faults.OutOfMemory
 sound-last once line name old new (Faults.Script at_line why) tells calm (bytes, head, given, reads) is = absurd is
 sound-last once line name old new Faults.Usage tells calm (bytes, head, given, reads) is = absurd is
 sound-last once line name old new (Faults.BadMedia which wav) tells calm (bytes, head, given, reads) is =
@@ -178,7 +178,7 @@ run-last parts old new (Faults.NotRun at_line reason) calm given is = absurd is
 
 -- ---- the script
 
-short-script : (old : Outside) (name bytes : List ℕ) (at size : ℕ) → IsGiven old name bytes → IsShort name old at size → ⊥
+pub short-script : (old : Outside) (name bytes : List ℕ) (at size : ℕ) → IsGiven old name bytes → IsShort name old at size → ⊥
 short-script old name bytes at size given short =
     let end = short.stopped given.end given.told_end in
     let whole = short.whole bytes given.held in
@@ -187,7 +187,7 @@ short-script old name bytes at size given short =
     omega (arith, end, whole, below, all)
 
 -- the script is given whole, and is one
-script-last : PlayOnce → (name log : List ℕ) (old new : Outside) (script : Script) (fault : Fault) → IsCalm old new → IsAsked name log old script → HasPlayReason name log old new fault → fault ≡ Faults.OutOfMemory
+pub script-last : PlayOnce → (name log : List ℕ) (old new : Outside) (script : Script) (fault : Fault) → IsCalm old new → IsAsked name log old script → HasPlayReason name log old new fault → fault ≡ Faults.OutOfMemory
 script-last once name log old new script (Faults.Script at_line why) calm asked is =
     (let N = is.1 asked.tells in
     absurd (no-play once name log asked.text script (fault_at at_line why) asked.is (subst (λ (b : List ℕ). PlayReadsAs name log b (Err (fault_at at_line why))) (same-text N.bytes asked.text (old.file name) N.held (asked.given).held) N.refused)))
@@ -252,7 +252,7 @@ sound-head old name bytes bad once given reads found head held good =
 
 -- a script that was read is as it was told, and so is each file
 module _ (name log : List ℕ) (old mid new : Outside) (script : Script) (W : WasRead name log old mid script) where
-  given-later : (file bytes : List ℕ) → IsGiven old file bytes → IsGiven mid file bytes
+  pub given-later : (file bytes : List ℕ) → IsGiven old file bytes → IsGiven mid file bytes
   given-later file bytes G = record {
     held = ap (λ (f : List ℕ → Option (List ℕ)). f file) W.files ∙ G.held;
     end = G.end;
@@ -260,18 +260,18 @@ module _ (name log : List ℕ) (old mid new : Outside) (script : Script) (W : Wa
     whole = G.whole;
   }
 
-  sound-later : (file : List ℕ) → IsSound old file → IsSound mid file
+  pub sound-later : (file : List ℕ) → IsSound old file → IsSound mid file
   sound-later file (bytes, head, G, reads) = (bytes, head, given-later file bytes G, reads)
 
   refuse-later : (file : List ℕ) → IsFalse (old.may_refuse file) → IsFalse (mid.may_refuse file)
   refuse-later file f = subst (λ (may : List ℕ → Bool). IsFalse (may file)) (sym (W.goes_on).may_refuse) f
 
-  heads-before : IsTrue old.tells → (parts : List PartLine) (count : ℕ) (heads : List WavHead) → HaveHeads mid parts count heads → HaveHeads old parts count heads
+  pub heads-before : IsTrue old.tells → (parts : List PartLine) (count : ℕ) (heads : List WavHead) → HaveHeads mid parts count heads → HaveHeads old parts count heads
   heads-before tells parts count heads H = λ _ place file b reader.
       (let h = H ((W.goes_on).tells ∙ tells) place file b reader in
       (h.0, h.1, (h.2.0, sym (ap (λ (f : List ℕ → Option (List ℕ)). f file) W.files) ∙ h.2.1, h.2.2)))
 
-  calm-later : (before now : ℕ) → IsFaultless old new before now → IsCalm mid new
+  pub calm-later : (before now : ℕ) → IsFaultless old new before now → IsCalm mid new
   calm-later before now N = record {
     read = subst (λ (n : ℕ). Rose n new.read_faults → ⊥) (sym (W.stand).reads) N.read;
     write = subst (λ (n : ℕ). Rose n new.write_faults → ⊥) (sym (W.stand).writes) N.write;
@@ -290,13 +290,13 @@ record IsLet (script : Script) (log : List ℕ) (mid : Outside) : Type 0 where
   sinks : (place : ℕ) (file : List ℕ) → IsWriter (parts_of script) place file → IsFalse (mid.may_refuse file)
   log_let_in : IsFalse (mid.may_refuse log)
 
-reader-in : (script : Script) (planned plan : PlanValue) (place : ℕ) (file : List ℕ) → IsPlanOfScript script planned → plan.parts ≡ planned.parts → IsReader plan.parts place file → IsReader (parts_of script) place file
+pub reader-in : (script : Script) (planned plan : PlanValue) (place : ℕ) (file : List ℕ) → IsPlanOfScript script planned → plan.parts ≡ planned.parts → IsReader plan.parts place file → IsReader (parts_of script) place file
 reader-in script planned plan place file is e r = subst (λ (ps : List PartLine). IsReader ps place file) (e ∙ planned-parts script planned is) r
 
-writer-in : (script : Script) (planned plan : PlanValue) (place : ℕ) (file : List ℕ) → IsPlanOfScript script planned → plan.parts ≡ planned.parts → IsWriter plan.parts place file → IsWriter (parts_of script) place file
+pub writer-in : (script : Script) (planned plan : PlanValue) (place : ℕ) (file : List ℕ) → IsPlanOfScript script planned → plan.parts ≡ planned.parts → IsWriter plan.parts place file → IsWriter (parts_of script) place file
 writer-in script planned plan place file is e w = subst (λ (ps : List PartLine). IsWriter ps place file) (e ∙ planned-parts script planned is) w
 
-unplanned-last : PlansOnce → (script : Script) (mid new : Outside) (fault : Fault) (plan : PlanValue) → IsPlanOfScript script plan → IsUnplanned script mid new fault → fault ≡ Faults.OutOfMemory
+pub unplanned-last : PlansOnce → (script : Script) (mid new : Outside) (fault : Fault) (plan : PlanValue) → IsPlanOfScript script plan → IsUnplanned script mid new fault → fault ≡ Faults.OutOfMemory
 unplanned-last once script mid new fault plan is U = U.told ∙ ap fault_of_plan (shape-last once script plan U.why is U.is)
 
 module _ (reads_once : ReadsOnce) (plans_once : PlansOnce) (script : Script) (log : List ℕ) (mid new : Outside) (fault : Fault) (calm : IsCalm mid new) (L : IsLet script log mid) where
@@ -330,11 +330,11 @@ can-let name log old mid new script W can e =
     }
 
 -- the script that was read is the one that is told
-read-same : PlayOnce → (name log : List ℕ) (old mid : Outside) (script asked : Script) → WasRead name log old mid script → IsAsked name log old asked → script ≡ asked
+pub read-same : PlayOnce → (name log : List ℕ) (old mid : Outside) (script asked : Script) → WasRead name log old mid script → IsAsked name log old asked → script ≡ asked
 read-same once name log old mid script asked W A =
     one-script once name log A.text script asked (subst (λ (t : List ℕ). IsPlayScript name log t script) (same-text W.text A.text (old.file name) (W.held A.tells) (A.given).held) W.is) A.is
 
-calm-of : (old new : Outside) (before now : ℕ) → IsFaultless old new before now → IsCalm old new
+pub calm-of : (old new : Outside) (before now : ℕ) → IsFaultless old new before now → IsCalm old new
 calm-of old new before now N = record { read = N.read; write = N.write }
 
 play-status : (outcome : Result (List ℕ) Fault) (told told_new : Option (List ℕ)) (before now : ℕ) (status : Status) → (Rose before now → ⊥) → IsPlayReported outcome told told_new before now status → status ≡ status_of outcome

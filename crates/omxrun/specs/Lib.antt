@@ -1,5 +1,6 @@
 pub mod Absences
 pub mod Asked
+pub mod Audits
 pub mod Clocked
 pub mod Commands
 pub mod Ended

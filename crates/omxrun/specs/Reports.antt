@@ -9,9 +9,9 @@ use Rattle.omx_types.specs.declared.fault.Fault.{Fault}
 use Rattle.omx_types.specs.declared.fault.Fault.TheVariants.{WriteFault}
 use Rattle.omx_types.specs.declared.fault.Status.{Status}
 use Rattle.omx_types.specs.declared.fault.Status.TheVariants as Statuses
-use Rattle.omxrun.specs.Texts.{fault_line, made_text, packed_text, unpacked_text}
+use Rattle.omxrun.specs.Texts.{fault_line, made_text, packed_text, unpacked_text, yes_text}
 use Rattle.omxrun.specs.declared.done.Done.{Done}
-use Rattle.omxrun.specs.declared.done.Done.TheVariants.{Made, Packed, Unpacked}
+use Rattle.omxrun.specs.declared.done.Done.TheVariants.{Made, Packed, Unpacked, Audited}
 
 abbrev pub status_of : {T : Type 0} → Result T Fault → Status
 status_of (Ok done) = Statuses.Ok
@@ -21,6 +21,7 @@ abbrev pub done_text : Done → List ℕ
 done_text (Made frames) = made_text frames
 done_text (Packed counts) = packed_text counts
 done_text (Unpacked counts) = unpacked_text counts
+done_text (Audited acts) = yes_text acts
 
 -- what is printed of an outcome
 abbrev pub outcome_text : Result Done Fault → List ℕ

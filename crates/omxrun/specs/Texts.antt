@@ -69,7 +69,7 @@ audit_text Audits.NotEnded = codes "not ended"
 -- the line of a fault, without its line feed
 abbrev pub fault_text : Fault → List ℕ
 fault_text (Faults.Script line why) = codes "script line " ++ (decimal line ++ (codes ": " ++ why_text why))
-fault_text Faults.Usage = codes "usage: trace SCRIPT | play SCRIPT WORKERS LOG | make SEED FRAMES DIR | pack WAV PACKETS | unpack PACKETS WAV | clock SCRIPT"
+fault_text Faults.Usage = codes "usage: trace SCRIPT | play SCRIPT WORKERS LOG | make SEED FRAMES DIR | pack WAV PACKETS | unpack PACKETS WAV | clock SCRIPT | audit SCRIPT LOG"
 fault_text (Faults.BadMedia which fault) = which_text which ++ (codes ": " ++ wav_text fault)
 fault_text Faults.ReadFault = codes "read fault"
 fault_text Faults.WriteFault = codes "write fault"
@@ -87,6 +87,10 @@ fault_line fault = fault_text fault ++ codes "\n"
 -- what is printed after files were made
 abbrev pub made_text : ℕ → List ℕ
 made_text frames = codes "made " ++ (decimal frames ++ codes " frames\n")
+
+-- what is printed of a log that names a run
+abbrev pub yes_text : ℕ → List ℕ
+yes_text acts = codes "yes " ++ (decimal acts ++ codes " acts\n")
 
 -- what is printed after a file was packed
 abbrev pub packed_text : Packed → List ℕ

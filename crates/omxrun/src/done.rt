@@ -1,8 +1,8 @@
-//! What the commands `make`, `pack` and `unpack` come to where they were done whole.
+//! What the commands `make`, `pack`, `unpack` and `audit` come to where they were done whole.
 
 use rtp_parts::{Packed, Unpacked};
 
-/// What a command that makes files, or turns one into another, prints once it was done whole.
+/// What a command that makes files, turns one into another, or checks a log, prints once it was done whole.
 #[derive(Clone, Copy, Debug, PartialEq, Eq)]
 pub enum Done {
     /// Files of that many frames were made.
@@ -11,4 +11,6 @@ pub enum Done {
     Packed(Packed),
     /// Packets were put together as a WAV file.
     Unpacked(Unpacked),
+    /// A log names a run of that many acts.
+    Audited { acts: u64 },
 }

@@ -1,6 +1,7 @@
-//! The program. Its words are a form of `trace`, `play`, `make`, `clock`, `pack` or `unpack`, and its exit status is that of what they came to.
+//! The program. Its words are a form of `trace`, `play`, `make`, `clock`, `pack`, `unpack` or `audit`, and its exit status is that of what they came to.
 #![tactic(auto)]
 
+mod audit;
 mod clock;
 mod done;
 mod making;

@@ -49,9 +49,15 @@ pub fn play_file<R: Threads + Wait + Sync, M: Media, O: Sink>(
 }
 
 /// The script of a play in the file of that name.
-fn script_of<M: Media>(alloc: Global, media: &mut M, name: &str, log: &str) -> Result<Script, Fault>
+pub fn script_of<M: Media>(
+    alloc: Global,
+    media: &mut M,
+    name: &str,
+    log: &str,
+) -> Result<Script, Fault>
     ensures goes_on { GoesOn (M.outside media.old) (M.outside media.new) }
     ensures kept { (M.outside media.new).file ≡ (M.outside media.old).file }
+    ensures unwritten { (M.outside media.new).write_faults ≡ (M.outside media.old).write_faults }
     ensures read { IfOk result (WasRead name.now log.now (M.outside media.old) (M.outside media.new)) }
     ensures reason { IfErr result (HasPlayReason name.now log.now (M.outside media.old) (M.outside media.new)) }
     ensures unabsent { AreAbsencesTold (M.outside media.old) (M.outside media.new) result }

@@ -6,7 +6,7 @@ ghost use Rattle.omxrun.specs.Reports.{HasStopped, IsPrinted, IsReported, outcom
 use crate::done::Done;
 use crate::packed_texts::{text_of_packed, text_of_unpacked};
 use crate::text::Text;
-use crate::texts::{text_of_fault, text_of_make};
+use crate::texts::{text_of_fault, text_of_make, text_of_yes};
 use omx_types::{Fault, Status};
 use outside_io::{Sink, write_all};
 
@@ -47,6 +47,7 @@ fn text_of(outcome: Result<Done, Fault>) -> Text
         Ok(Done::Made { frames }) => text_of_make(frames),
         Ok(Done::Packed(counts)) => text_of_packed(counts),
         Ok(Done::Unpacked(counts)) => text_of_unpacked(counts),
+        Ok(Done::Audited { acts }) => text_of_yes(acts),
         Err(fault) => text_of_fault(fault),
     }
 }

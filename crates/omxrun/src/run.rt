@@ -8,7 +8,10 @@ ghost use Rattle.omx_types.specs.declared.fault.WavFault.{WavFault};
 ghost use Rattle.omxrun.specs.declared.done.Done.{Done};
 ghost use Rattle.play_forms.specs.declared.plan_fault.PlanFault.{PlanFault};
 ghost use Rattle.play_files.specs.Faults.{fault_of_plan};
+ghost use Rattle.audit_forms.specs.Audited.{Verdict};
+ghost use Rattle.audit_forms.specs.Whole.{IsAudited};
 ghost use Rattle.omxrun.specs.Asked.{IsUntraced, CanTrace, IsUnread, HasNoPlan, IsMisfitted, IsFaulty, CanPlay, CanMake, IsFaultless, IsOrMemory};
+ghost use Rattle.omxrun.specs.Audits.{CanAudit, IsAuditOutcome, IsLeftByPlay, IsOfVerdict, status_by};
 ghost use Rattle.omxrun.specs.Clocked.{IsClockOutcome, CanClock, IsUnclocked};
 ghost use Rattle.omxrun.specs.Commands.{HasRun};
 ghost use Rattle.omxrun.specs.Making.{IsMakeOutcome};
@@ -18,8 +21,9 @@ ghost use Rattle.omxrun.specs.Plays.{IsPlayOutcome, IsPlayReported};
 ghost use Rattle.omxrun.specs.Reports.{HasStopped, IsPrinted, IsReported, status_of};
 ghost use Rattle.omxrun.specs.Traced.{IsTraceOutcome};
 ghost use Rattle.omxrun.specs.Turned.{Written, IsTurnOutcome, CanTurn};
-ghost use Rattle.omxrun.specs.Words.{Asked, to_trace, to_play, to_make, to_clock, to_pack, to_unpack, AreWordsOf, AreNoForm, IsAllowed, asked_by};
+ghost use Rattle.omxrun.specs.Words.{Asked, to_trace, to_play, to_make, to_clock, to_pack, to_unpack, to_audit, AreWordsOf, AreNoForm, IsAllowed, asked_by};
 
+use crate::audit::audit_file;
 use crate::clock::clock_file;
 use crate::done::Done;
 use crate::making::make_files;
@@ -28,6 +32,7 @@ use crate::play::play_file;
 use crate::print::report;
 use crate::trace::trace_file;
 use crate::words::{Command, command_of};
+use audit_laws::law_of_verdicts;
 use omx_types::{Fault, Status};
 use outside_io::{Media, Sink};
 use play_forms::law_of_plans;
@@ -86,6 +91,11 @@ pub fn run_words<R: Threads + Wait + Sync, M: Media, O: Sink>(
         × IsTurnOutcome UnpacksTo StoppedUnpacking input output (M.outside media.old) (M.outside media.new) outcome
         × IsReported outcome (O.told out.old) (O.told out.new) (O.faults out.old) (O.faults out.new) result }
 
+    // A log that is checked: what it came to, and what is printed of that.
+    ensures audit { (script log : List ℕ) → AreWordsOf (map string_bytes words.now) (to_audit script log) → (outcome : Result Done Fault)
+        × IsAuditOutcome script log (M.outside media.old) (M.outside media.new) outcome
+        × IsReported outcome (O.told out.old) (O.told out.new) (O.faults out.old) (O.faults out.new) result }
+
     // Where all is told and no count of faults rises, the status is the one that the files ask for, or memory was wanting.
     ensures untraced { (script : List ℕ) (line : ℕ) (why : ScriptWhy) → AreWordsOf (map string_bytes words.now) (to_trace script) →
         IsFaultless (M.outside media.old) (M.outside media.new) (O.faults out.old) (O.faults out.new) →
@@ -123,11 +133,23 @@ pub fn run_words<R: Threads + Wait + Sync, M: Media, O: Sink>(
     ensures complete_unpack { (input output : List ℕ) (answer : Result Written Fault) → AreWordsOf (map string_bytes words.now) (to_unpack input output) →
         IsFaultless (M.outside media.old) (M.outside media.new) (O.faults out.old) (O.faults out.new) →
         CanTurn UnpacksTo input output (M.outside media.old) answer → IsOrMemory result (status_of answer) }
+
+    // The check of a log comes to the one verdict that it has, which is a yes where a play left it that was done whole; or memory was wanting.
+    ensures complete_audit { (script log : List ℕ) → AreWordsOf (map string_bytes words.now) (to_audit script log) →
+        IsFaultless (M.outside media.old) (M.outside media.new) (O.faults out.old) (O.faults out.new) →
+        CanAudit script log (M.outside media.old) → IsOfVerdict script log (M.outside media.old) result }
+    ensures decided { (script log : List ℕ) (verdict : Verdict) → AreWordsOf (map string_bytes words.now) (to_audit script log) →
+        IsFaultless (M.outside media.old) (M.outside media.new) (O.faults out.old) (O.faults out.new) →
+        CanAudit script log (M.outside media.old) → IsAudited script log (M.outside media.old) verdict → IsOrMemory result (status_by verdict) }
+    ensures left_by_play { (script log : List ℕ) → AreWordsOf (map string_bytes words.now) (to_audit script log) →
+        IsFaultless (M.outside media.old) (M.outside media.new) (O.faults out.old) (O.faults out.new) →
+        CanAudit script log (M.outside media.old) → IsLeftByPlay script log (M.outside media.old) → IsOrMemory result Status.Ok }
 {
     one_answer();
     one_outcome();
     one_play();
     law_of_plans();
+    law_of_verdicts();
     match command_of(words) {
         Some(command) => run_command(rt, alloc, command, media, out),
         None => report(Err(Fault::Usage), out),
@@ -166,6 +188,7 @@ fn run_command<R: Threads + Wait + Sync, M: Media, O: Sink>(
         Command::Clock { script } => clock_file(alloc, media, script, out),
         Command::Pack { input, output } => report(pack_file(alloc, media, input, output), out),
         Command::Unpack { input, output } => report(unpack_file(alloc, media, input, output), out),
+        Command::Audit { script, log } => report(audit_file(alloc, media, script, log), out),
     }
 }
 

@@ -1,8 +1,8 @@
-//! The messages of faults, a line each, and the line of files that were made.
+//! The messages of faults, a line each, and the lines of files that were made and of a log that names a run.
 
 ghost use Rattle.std.specs.Prelude.{◌≡◌, ◌+◌, ◌≤◌, ◌++◌, length, codes};
 ghost use Rattle.std.specs.Fmt.{decimal};
-ghost use Rattle.omxrun.specs.Texts.{fault_text, made_text, which_text, wav_text, why_text, packets_text, audit_text};
+ghost use Rattle.omxrun.specs.Texts.{fault_text, made_text, yes_text, which_text, wav_text, why_text, packets_text, audit_text};
 
 use crate::text::Text;
 use omx_types::{AuditWhy, Fault, PacketsWhy, ScriptWhy, WavFault, Which};
@@ -28,16 +28,27 @@ pub fn text_of_make(frames: u64) -> Text
     text
 }
 
+/// What the check of a log prints that names a run of so many acts.
+pub fn text_of_yes(acts: u64) -> Text
+    ensures { result ≡ yes_text acts }
+{
+    let mut text = Text::new();
+    text.push(b"yes ");
+    text.push_number(acts);
+    text.push(b" acts\n");
+    text
+}
+
 fn put_fault(text: &mut Text, fault: Fault)
     requires { length text.old ≡ 0 }
     ensures text { text.new ≡ text.old ++ fault_text fault }
-    ensures len { length text.new ≤ 130 }
+    ensures len { length text.new ≤ 150 }
 {
     match fault {
         Fault::Script { line, why } => put_script(text, line, why),
         Fault::Usage => {
             text.push(
-                b"usage: trace SCRIPT | play SCRIPT WORKERS LOG | make SEED FRAMES DIR | pack WAV PACKETS | unpack PACKETS WAV | clock SCRIPT",
+                b"usage: trace SCRIPT | play SCRIPT WORKERS LOG | make SEED FRAMES DIR | pack WAV PACKETS | unpack PACKETS WAV | clock SCRIPT | audit SCRIPT LOG",
             )
         }
         Fault::BadMedia { which, fault } => put_bad_media(text, which, fault),

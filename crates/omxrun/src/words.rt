@@ -3,7 +3,7 @@
 ghost use Rattle.std.specs.Prelude.{◌≡◌, ◌<◌, ◌↔◌, ◌^◌, ℕ, [], ◌∷◌, map, string_bytes, IsTrue, IfSome, IfNone, codes};
 ghost use Rattle.std.specs.Fmt.{decimal};
 ghost use Rattle.omxrun.specs.Names.{IsName};
-ghost use Rattle.omxrun.specs.Words.{AreWordsOf, AreNoForm, IsPlay, IsMake, ArePair, asked_by};
+ghost use Rattle.omxrun.specs.Words.{AreWordsOf, AreNoForm, AreNames, IsPlay, IsMake, ArePair, asked_by};
 
 use line_text::{one_numeral, read_u64};
 use script_lang::FILE_NAME_BYTES;
@@ -35,6 +35,10 @@ pub enum Command<'a> {
         input: &'a str,
         output: &'a str,
     },
+    Audit {
+        script: &'a str,
+        log: &'a str,
+    },
 }
 
 /// What the words ask for, where they are one of the forms.
@@ -44,7 +48,7 @@ pub fn command_of(words: &[String]) -> Option<Command<'_>>
 {
     match words {
         [verb, script] => two_of(verb, script),
-        [verb, input, output] => three_of(verb, input, output),
+        [verb, first, second] => three_of(verb, first, second),
         [verb, first, second, third] => four_of(verb, first, second, third),
         _ => None,
     }
@@ -65,16 +69,35 @@ fn two_of<'a>(verb: &str, script: &'a str) -> Option<Command<'a>>
     }
 }
 
-fn three_of<'a>(verb: &str, input: &'a str, output: &'a str) -> Option<Command<'a>>
-    ensures some { IfSome result (λ command. AreWordsOf (verb.now ∷ input.now ∷ output.now ∷ []) (asked_by command)) }
-    ensures none { IfNone result (AreNoForm (verb.now ∷ input.now ∷ output.now ∷ [])) }
+fn three_of<'a>(verb: &str, first: &'a str, second: &'a str) -> Option<Command<'a>>
+    ensures some { IfSome result (λ command. AreWordsOf (verb.now ∷ first.now ∷ second.now ∷ []) (asked_by command)) }
+    ensures none { IfNone result (AreNoForm (verb.now ∷ first.now ∷ second.now ∷ [])) }
 {
-    if !are_pair(input, output) {
+    if verb == "audit" {
+        audit_of(first, second)
+    } else if !are_pair(first, second) {
         None
     } else if verb == "pack" {
-        Some(Command::Pack { input, output })
+        Some(Command::Pack {
+            input: first,
+            output: second,
+        })
     } else if verb == "unpack" {
-        Some(Command::Unpack { input, output })
+        Some(Command::Unpack {
+            input: first,
+            output: second,
+        })
+    } else {
+        None
+    }
+}
+
+fn audit_of<'a>(script: &'a str, log: &'a str) -> Option<Command<'a>>
+    ensures some { IfSome result (λ command. AreWordsOf (codes "audit" ∷ script.now ∷ log.now ∷ []) (asked_by command)) }
+    ensures none { IfNone result (AreNoForm (codes "audit" ∷ script.now ∷ log.now ∷ [])) }
+{
+    if are_names(script, log) {
+        Some(Command::Audit { script, log })
     } else {
         None
     }
@@ -146,6 +169,12 @@ fn is_play(script: &str, workers: u64, log: &str) -> bool
     ensures { IsTrue result ↔ IsPlay script.now workers log.now }
 {
     is_name(script) && workers <= 8 && is_name(log) && log != script
+}
+
+fn are_names(script: &str, log: &str) -> bool
+    ensures { IsTrue result ↔ AreNames script.now log.now }
+{
+    is_name(script) && is_name(log)
 }
 
 fn are_pair(input: &str, output: &str) -> bool

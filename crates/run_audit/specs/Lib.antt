@@ -8,3 +8,8 @@ pub mod Returning
 pub mod Seeing
 pub mod Settling
 pub mod Walking
+pub mod Opening
+pub mod Ending
+pub mod Leaving
+pub mod Replayed
+pub mod Auditing

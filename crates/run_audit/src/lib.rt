@@ -3,15 +3,21 @@
 
 mod acts;
 mod answering;
+mod auditing;
+mod ending;
 mod keeping;
+mod leaving;
+mod opening;
 mod passing;
 mod replay;
+mod replaying;
 mod returning;
 mod settling;
 mod telling;
 mod walking;
 
 pub use answering::{Answered, answer};
+pub use auditing::{AuditFault, audit};
 pub use replay::{Passed, Replay};
 pub use returning::Back;
 pub use walking::Walked;

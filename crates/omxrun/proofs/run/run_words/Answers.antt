@@ -1,5 +1,6 @@
 use Rattle.std.proofs.Common.{map, string_bytes, refl}
-use Rattle.omxrun.specs.Words.{to_trace, to_play, to_make, to_clock, to_pack, to_unpack, asked_by}
+use Rattle.omxrun.specs.Words.{to_trace, to_play, to_make, to_clock, to_pack, to_unpack, to_audit, asked_by}
+use Rattle.omxrun.proofs.AuditEnds.{complete_audit, decided, left_by_play}
 use Rattle.omxrun.proofs.Clocks.{complete_clock, unclocked}
 use Rattle.omxrun.proofs.Commands.{run-asked}
 use Rattle.omxrun.proofs.Makes.{complete_make}
@@ -66,6 +67,18 @@ returns-in-None-clause-unpack g c = λ input output words. absurd (c.in-None.ens
 
 pub returns-in-None-clause-complete_unpack : goal.returns-in-None-clause-complete_unpack
 returns-in-None-clause-complete_unpack g c = λ input output answer words none can. absurd (c.in-None.ensures.none (to_unpack input output) words)
+
+pub returns-in-None-clause-audit : goal.returns-in-None-clause-audit
+returns-in-None-clause-audit g c = λ script log words. absurd (c.in-None.ensures.none (to_audit script log) words)
+
+pub returns-in-None-clause-complete_audit : goal.returns-in-None-clause-complete_audit
+returns-in-None-clause-complete_audit g c = λ script log words none can. absurd (c.in-None.ensures.none (to_audit script log) words)
+
+pub returns-in-None-clause-decided : goal.returns-in-None-clause-decided
+returns-in-None-clause-decided g c = λ script log verdict words none can is. absurd (c.in-None.ensures.none (to_audit script log) words)
+
+pub returns-in-None-clause-left_by_play : goal.returns-in-None-clause-left_by_play
+returns-in-None-clause-left_by_play g c = λ script log words none can left. absurd (c.in-None.ensures.none (to_audit script log) words)
 
 -- ---- a command
 
@@ -159,3 +172,22 @@ pub returns-in-Some-clause-complete_unpack : goal.returns-in-Some-clause-complet
 returns-in-Some-clause-complete_unpack g c = λ input output answer words none can.
     complete_unpack input output (g.M.Media.outside c.args.media.now) (g.M.Media.outside c.run_command.new.media) (g.O.Sink.told c.args.out.now) (g.O.Sink.told c.run_command.new.out) (g.O.Sink.faults c.args.out.now) (g.O.Sink.faults c.run_command.new.out) answer c.run_command.result
     (run-asked (map string_bytes c.args.words.now) (to_unpack input output) (g.M.Media.outside c.args.media.now) (g.M.Media.outside c.run_command.new.media) (g.O.Sink.told c.args.out.now) (g.O.Sink.told c.run_command.new.out) (g.O.Sink.faults c.args.out.now) (g.O.Sink.faults c.run_command.new.out) c.run_command.result (asked_by c.in-Some.command) c.in-Some.ensures.some c.run_command.ensures.run words) none can
+
+pub returns-in-Some-clause-audit : goal.returns-in-Some-clause-audit
+returns-in-Some-clause-audit g c = λ script log words.
+    run-asked (map string_bytes c.args.words.now) (to_audit script log) (g.M.Media.outside c.args.media.now) (g.M.Media.outside c.run_command.new.media) (g.O.Sink.told c.args.out.now) (g.O.Sink.told c.run_command.new.out) (g.O.Sink.faults c.args.out.now) (g.O.Sink.faults c.run_command.new.out) c.run_command.result (asked_by c.in-Some.command) c.in-Some.ensures.some c.run_command.ensures.run words
+
+pub returns-in-Some-clause-complete_audit : goal.returns-in-Some-clause-complete_audit
+returns-in-Some-clause-complete_audit g c = λ script log words none can.
+    let audited = run-asked (map string_bytes c.args.words.now) (to_audit script log) (g.M.Media.outside c.args.media.now) (g.M.Media.outside c.run_command.new.media) (g.O.Sink.told c.args.out.now) (g.O.Sink.told c.run_command.new.out) (g.O.Sink.faults c.args.out.now) (g.O.Sink.faults c.run_command.new.out) c.run_command.result (asked_by c.in-Some.command) c.in-Some.ensures.some c.run_command.ensures.run words in
+    complete_audit c.one_play.ensures.same c.one_answer.ensures.same c.law_of_plans.ensures.planned script log (g.M.Media.outside c.args.media.now) (g.M.Media.outside c.run_command.new.media) (g.O.Sink.faults c.args.out.now) (g.O.Sink.faults c.run_command.new.out) none can (g.O.Sink.told c.args.out.now) (g.O.Sink.told c.run_command.new.out) c.run_command.result audited.0 audited.1 audited.2
+
+pub returns-in-Some-clause-decided : goal.returns-in-Some-clause-decided
+returns-in-Some-clause-decided g c = λ script log verdict words none can is.
+    let audited = run-asked (map string_bytes c.args.words.now) (to_audit script log) (g.M.Media.outside c.args.media.now) (g.M.Media.outside c.run_command.new.media) (g.O.Sink.told c.args.out.now) (g.O.Sink.told c.run_command.new.out) (g.O.Sink.faults c.args.out.now) (g.O.Sink.faults c.run_command.new.out) c.run_command.result (asked_by c.in-Some.command) c.in-Some.ensures.some c.run_command.ensures.run words in
+    decided c.one_play.ensures.same c.one_answer.ensures.same c.law_of_plans.ensures.planned script log (g.M.Media.outside c.args.media.now) (g.M.Media.outside c.run_command.new.media) (g.O.Sink.faults c.args.out.now) (g.O.Sink.faults c.run_command.new.out) none can (g.O.Sink.told c.args.out.now) (g.O.Sink.told c.run_command.new.out) c.run_command.result (c.law_of_verdicts.ensures.one script log (g.M.Media.outside c.args.media.now)) verdict is audited.0 audited.1 audited.2
+
+pub returns-in-Some-clause-left_by_play : goal.returns-in-Some-clause-left_by_play
+returns-in-Some-clause-left_by_play g c = λ script log words none can left.
+    let audited = run-asked (map string_bytes c.args.words.now) (to_audit script log) (g.M.Media.outside c.args.media.now) (g.M.Media.outside c.run_command.new.media) (g.O.Sink.told c.args.out.now) (g.O.Sink.told c.run_command.new.out) (g.O.Sink.faults c.args.out.now) (g.O.Sink.faults c.run_command.new.out) c.run_command.result (asked_by c.in-Some.command) c.in-Some.ensures.some c.run_command.ensures.run words in
+    left_by_play c.one_play.ensures.same c.one_answer.ensures.same c.law_of_plans.ensures.planned script log (g.M.Media.outside c.args.media.now) (g.M.Media.outside c.run_command.new.media) (g.O.Sink.faults c.args.out.now) (g.O.Sink.faults c.run_command.new.out) none can (g.O.Sink.told c.args.out.now) (g.O.Sink.told c.run_command.new.out) c.run_command.result left audited.0 audited.1 audited.2

@@ -1,0 +1,4 @@
+mod Refusals
+mod Writing
+mod Ready
+mod Closed

@@ -1,0 +1,73 @@
+use Rattle.std.proofs.Common.{◌≡◌, ℕ, ◌<◌, Some, length, slice_get, refl, subst, ◌∙◌, arith}
+use Rattle.std.proofs.lemmas.Option.{slice_get_read}
+use Rattle.script_lang.specs.declared.play_line.PartLine.{PartLine}
+use Rattle.play_result_laws.specs.Files.{written_by}
+use Rattle.play_files.proofs.Asking.{asked_all, asked_more, asked_same}
+use Rattle.play_files.proofs.Fronts.{still_then}
+use Rattle.audit_files.specs.Compared.{HaveCompared}
+use Rattle.audit_files.proofs.Refusals.{file_sooner, refused_sooner}
+use Rattle.audit_files.proofs.Writing.{other_more, sink_more}
+use Rattle.audit_files.proofs.comparing.compare_all.Goals as goal
+use Rattle.audit_files.proofs.comparing.compare_all.Goals.{in-Some+in-Ok, in_default}
+
+pub put-requires-clause-free : goal.put-requires-clause-free
+put-requires-clause-free g c =
+    let parts = c.args.parts.now in
+    let count = c.loop-place.place in
+    let there : slice_get parts count ≡ Some c.index-parts-place.result = slice_get_read parts _ count c.index-parts-place.result refl c.loop-place-test.true c.index-parts-place.is in
+    c.loop-place.invariant.have.rest count (omega arith) ∙ c.requires.free count c.index-parts-place.result c.in-Some.name.now there c.in-Some.ensures.some
+
+pub loop-place-preserved : goal.loop-place-preserved
+loop-place-preserved g c =
+    let i = c.loop-place.invariant in
+    let old = g.M.Media.outside c.args.media.now in
+    let mid = g.M.Media.outside c.loop-place.media in
+    let parts = c.args.parts.now in
+    let planned = c.args.planned.now in
+    let count = c.loop-place.place in
+    let there : slice_get parts count ≡ Some c.index-parts-place.result = slice_get_read parts _ count c.index-parts-place.result refl c.loop-place-test.true c.index-parts-place.is in
+    let within : count < length c.loop-place.files = (let a = c.loop-place.auto.files in let b = c.requires.many in let d = c.loop-place-test.true in omega arith) in
+    elim c.match-written_name.branch [
+      | in-Some+in-Ok w ↦ rw (w.media-is, w.files-is) (record {
+        still = still_then old mid _ i.still w.in-Ok.ensures.still;
+        asked = asked_more (λ (part : PartLine). written_by part.form) old mid _ parts count c.index-parts-place.result w.in-Some.name.now (w.in-Ok.ensures.still).goes_on there w.in-Some.ensures.some i.asked (w.in-Ok.ensures.asked (λ n. cc));
+        have = rw w.put.ensures (sink_more g.M.Src.Source old parts planned count c.args.files.now c.loop-place.files i.have c.index-parts-place.result there w.in-Some.name.now _ w.in-Some.ensures.some
+            (rw w.new.ensures (refl, refl, file_sooner old mid i.still w.in-Some.name.now _ w.in-Ok.ensures.opened)) within);
+      })
+      | in_default w ↦ rw (w.media-is, w.files-is) (record {
+        still = i.still;
+        asked = asked_same (λ (part : PartLine). written_by part.form) old mid parts count c.index-parts-place.result there (rw w.in_default.is at c.written_name.ensures.none) i.asked;
+        have = other_more g.M.Src.Source old parts planned count c.args.files.now c.loop-place.files i.have c.index-parts-place.result there (rw w.in_default.is at c.written_name.ensures.none);
+      })
+    ]
+
+pub returns-clause-opened : goal.returns-clause-opened
+returns-clause-opened g c =
+    let ends : c.loop-place.place ≡ length c.args.parts.now = (let a = c.loop-place-test.false in let b = c.loop-place.auto.place-end in omega arith) in
+    subst (λ (n : ℕ). HaveCompared g.M.Src.Source
+    (g.M.Media.outside c.args.media.now) c.args.parts.now c.args.planned.now n c.args.files.now c.loop-place.files) ends c.loop-place.invariant.have
+
+pub returns-clause-asked : goal.returns-clause-asked
+returns-clause-asked g c =
+    asked_all (λ (part : PartLine). written_by part.form) (g.M.Media.outside c.args.media.now) (g.M.Media.outside c.loop-place.media) c.args.parts.now c.loop-place.place (let a = c.loop-place-test.false in omega arith) c.loop-place.invariant.asked
+
+pub returns-in-Err-clause-met : goal.returns-in-Err-clause-met
+returns-in-Err-clause-met g c =
+    let i = c.loop-place.invariant in
+    let old = g.M.Media.outside c.args.media.now in
+    let mid = g.M.Media.outside c.loop-place.media in
+    let parts = c.args.parts.now in
+    let count = c.loop-place.place in
+    let there : slice_get parts count ≡ Some c.index-parts-place.result = slice_get_read parts _ count c.index-parts-place.result refl c.loop-place-test.true c.index-parts-place.is in
+    let refused = c.in-Err.ensures.refused in (
+      count,
+      record {
+        part = c.index-parts-place.result;
+        there = there;
+        name = c.in-Some.name.now;
+        writes = c.in-Some.ensures.some;
+        refused = refused_sooner old mid i.still (c.index-parts-place.result).line c.in-Some.name.now _ c.in-Err.fault refused;
+      },
+      i.have,
+      λ n. asked_more (λ (part : PartLine). written_by part.form) old mid _ parts count c.index-parts-place.result c.in-Some.name.now refused.goes_on there c.in-Some.ensures.some i.asked (c.in-Err.ensures.asked (λ same. n (cc))),
+    )
