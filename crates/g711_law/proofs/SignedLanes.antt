@@ -37,11 +37,6 @@ by_sign_is m n (suc k) [] e h = absurd (omega arith)
 by_sign_is m n (suc k) (y ∷ ys) e h =
     ap2 (sign_lane (lt_z (to_z w16 (of_z w16 y)) (pos 0)) m n ∙ ap (λ z. cond (is_negative z) m n) (to_z-of_z w16 y h.0)) (by_sign_is m n k ys (omega arith) h.1)
 
--- ---- a vector of samples that was passed
-
-pub passed : (x : List ℤ) → Each1 (FitsSigned w16) x → map (to_z w16) (map (of_z w16) x) ≡ x
-passed x h = map_again (to_z w16) (of_z w16) x ∙ map_itself (FitsSigned w16) (λ z. to_z w16 (of_z w16 z)) x h (to_z-of_z w16)
-
 -- ---- A-law's magnitude: the greater of a sample and its bits inverted
 
 abbrev flip : ℕ → ℕ

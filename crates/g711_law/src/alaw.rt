@@ -1,9 +1,10 @@
 //! A-law of ITU-T G.711: a sample, sixteen lanes, or a slice is encoded and decoded.
 
-ghost use Rattle.std.specs.Prelude.{◌≡◌, ◌/◌, ◌<◌, ℤ, pos, ◌≤ℤ◌, length, map, FitsSigned};
+ghost use Rattle.std.specs.Prelude.{◌≡◌, ◌*◌, ◌/◌, ◌<◌, ℤ, pos, ◌≤ℤ◌, length, map, FitsSigned};
 ghost use Rattle.std.specs.Simd.Lanes.{Each1};
 ghost use mir.Syntax.{w8, w16};
 ghost use mir.Val.{Fits};
+ghost use Rattle.pcm_ops.specs.Samples.{samples, bytes};
 ghost use Rattle.g711_law.specs.Steps.{AreWithin};
 ghost use Rattle.g711_law.specs.Alaw.{alaw_magnitude, alaw_step, alaw_code, alaw_middle, alaw_value, alaw_half_step};
 
@@ -109,18 +110,18 @@ impl Compander for ALaw {
     }
 }
 
-/// The A-law code of each sample (ITU-T G.711).
-pub fn alaw_encode_all(from: &[i16], to: &mut [u8])
-    requires { length from.now ≡ length to.old }
-    ensures { to.new ≡ map alaw_code from.now }
+/// The A-law code of each sample (ITU-T G.711). The samples come as bytes, the lower first.
+pub fn alaw_encode_all(from: &[u8], to: &mut [u8])
+    requires { length from.now ≡ 2 * length to.old }
+    ensures { to.new ≡ map alaw_code (samples from.now) }
 {
     encode_all::<ALaw>(from, to)
 }
 
-/// The sample that each A-law code stands for (ITU-T G.711).
-pub fn alaw_decode_all(from: &[u8], to: &mut [i16])
-    requires { length from.now ≡ length to.old }
-    ensures { to.new ≡ map alaw_value from.now }
+/// The bytes of the sample that each A-law code stands for, the lower first (ITU-T G.711).
+pub fn alaw_decode_all(from: &[u8], to: &mut [u8])
+    requires { length to.old ≡ 2 * length from.now }
+    ensures { to.new ≡ bytes (map alaw_value from.now) }
 {
     decode_all::<ALaw>(from, to)
 }

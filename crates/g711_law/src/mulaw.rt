@@ -1,8 +1,9 @@
 //! Mu-law of ITU-T G.711: a sample, sixteen lanes, or a slice is encoded and decoded.
 
-ghost use Rattle.std.specs.Prelude.{◌≡◌, ◌/◌, ◌<◌, ◌≤◌, ℤ, pos, ◌≤ℤ◌, unsigned_abs, length, map, FitsSigned};
+ghost use Rattle.std.specs.Prelude.{◌≡◌, ◌*◌, ◌/◌, ◌<◌, ◌≤◌, ℤ, pos, ◌≤ℤ◌, unsigned_abs, length, map, FitsSigned};
 ghost use Rattle.std.specs.Simd.Lanes.{Each1};
 ghost use mir.Syntax.{w16};
+ghost use Rattle.pcm_ops.specs.Samples.{samples, bytes};
 ghost use Rattle.g711_law.specs.Steps.{AreWithin};
 ghost use Rattle.g711_law.specs.Mulaw.{mulaw_magnitude, mulaw_step, mulaw_code, mulaw_middle, mulaw_value, mulaw_half_step};
 
@@ -101,18 +102,18 @@ impl Compander for MuLaw {
     }
 }
 
-/// The mu-law code of each sample (ITU-T G.711).
-pub fn mulaw_encode_all(from: &[i16], to: &mut [u8])
-    requires { length from.now ≡ length to.old }
-    ensures { to.new ≡ map mulaw_code from.now }
+/// The mu-law code of each sample (ITU-T G.711). The samples come as bytes, the lower first.
+pub fn mulaw_encode_all(from: &[u8], to: &mut [u8])
+    requires { length from.now ≡ 2 * length to.old }
+    ensures { to.new ≡ map mulaw_code (samples from.now) }
 {
     encode_all::<MuLaw>(from, to)
 }
 
-/// The sample that each mu-law code stands for (ITU-T G.711).
-pub fn mulaw_decode_all(from: &[u8], to: &mut [i16])
-    requires { length from.now ≡ length to.old }
-    ensures { to.new ≡ map mulaw_value from.now }
+/// The bytes of the sample that each mu-law code stands for, the lower first (ITU-T G.711).
+pub fn mulaw_decode_all(from: &[u8], to: &mut [u8])
+    requires { length to.old ≡ 2 * length from.now }
+    ensures { to.new ≡ bytes (map mulaw_value from.now) }
 {
     decode_all::<MuLaw>(from, to)
 }

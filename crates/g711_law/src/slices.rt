@@ -1,10 +1,12 @@
-//! Slices are coded by a companding: sixteen lanes at a time, and the rest a sample at a time.
+//! The bytes of samples are coded by a companding: sixteen lanes at a time, and the rest a sample at a time.
 
-ghost use Rattle.std.specs.Prelude.{◌≡◌, ◌<◌, ℕ, ℤ, pos, length, map, FitsSigned, slice_index_or};
+ghost use Rattle.std.specs.Prelude.{◌≡◌, ◌*◌, ℕ, ℤ, length, map, FitsSigned};
 ghost use Rattle.std.specs.Simd.Lanes.{Each1};
 ghost use mir.Syntax.{w8, w16};
 ghost use mir.Val.{Fits};
+ghost use Rattle.pcm_ops.specs.Samples.{samples, bytes};
 
+use pcm_ops::{lanes_at, put_lanes, put_sample, sample_at};
 use std::simd::prelude::*;
 
 /// The lanes of a vector.
@@ -34,44 +36,32 @@ pub(crate) trait Compander {
         ensures fits { Each1 (FitsSigned w16) result };
 }
 
-/// Shows a proof that the items of a slice are samples of 16 bits. It does nothing, and no code is
-/// left of it.
-#[inline(always)]
-fn each_fits(samples: &[i16])
-    ensures { (k : ℕ) → k < length samples.now → FitsSigned w16 (slice_index_or samples.now k (pos 0)) }
+pub(crate) fn encode_all<L: Compander>(from: &[u8], to: &mut [u8])
+    requires { length from.now ≡ 2 * length to.old }
+    ensures { to.new ≡ map L.code (samples from.now) }
 {
-    for sample in samples {
-        let _sample = *sample;
-    }
-}
-
-pub(crate) fn encode_all<L: Compander>(from: &[i16], to: &mut [u8])
-    requires { length from.now ≡ length to.old }
-    ensures { to.new ≡ map L.code from.now }
-{
-    each_fits(from);
     let mut i = 0;
-    while from.len() - i >= LANES {
-        L::encode_lanes(i16x16::from_slice(&from[i..])).copy_to_slice(&mut to[i..]);
+    while to.len() - i >= LANES {
+        L::encode_lanes(lanes_at(from, i)).copy_to_slice(&mut to[i..]);
         i += LANES;
     }
-    while i < from.len() {
-        to[i] = L::encode(from[i]);
+    while i < to.len() {
+        to[i] = L::encode(sample_at(from, i));
         i += 1;
     }
 }
 
-pub(crate) fn decode_all<L: Compander>(from: &[u8], to: &mut [i16])
-    requires { length from.now ≡ length to.old }
-    ensures { to.new ≡ map L.value from.now }
+pub(crate) fn decode_all<L: Compander>(from: &[u8], to: &mut [u8])
+    requires { length to.old ≡ 2 * length from.now }
+    ensures { to.new ≡ bytes (map L.value from.now) }
 {
     let mut i = 0;
     while from.len() - i >= LANES {
-        L::decode_lanes(u8x16::from_slice(&from[i..])).copy_to_slice(&mut to[i..]);
+        put_lanes(L::decode_lanes(u8x16::from_slice(&from[i..])), to, i);
         i += LANES;
     }
     while i < from.len() {
-        to[i] = L::decode(from[i]);
+        put_sample(L::decode(from[i]), to, i);
         i += 1;
     }
 }

@@ -15,6 +15,12 @@ passed x h = map_again (to_z w16) (of_z w16) x ∙ map_itself (FitsSigned w16) (
 pub passed_sums : (x : List ℤ) → Each1 (FitsSigned w32) x → map (to_z w32) (map (of_z w32) x) ≡ x
 passed_sums x h = map_again (to_z w32) (of_z w32) x ∙ map_itself (FitsSigned w32) (λ z. to_z w32 (of_z w32 z)) x h (to_z-of_z w32)
 
+pub passed_fit : (x : List ℤ) → Each1 (FitsSigned w16) x → Each1 (FitsSigned w16) (map (to_z w16) (map (of_z w16) x))
+passed_fit x h = subst (Each1 (FitsSigned w16)) (sym (passed x h)) h
+
+pub passed_sums_fit : (x : List ℤ) → Each1 (FitsSigned w32) x → Each1 (FitsSigned w32) (map (to_z w32) (map (of_z w32) x))
+passed_sums_fit x h = subst (Each1 (FitsSigned w32)) (sym (passed_sums x h)) h
+
 pub wider : (x : ℤ) → FitsSigned w16 x → FitsSigned w32 x
 wider x f = fits_signed_from_abs w32 x (omega (arith, size_of_sample x f))
 

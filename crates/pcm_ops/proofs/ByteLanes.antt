@@ -1,17 +1,10 @@
 -- Samples and their bytes, sixteen at a time.
-use Rattle.std.proofs.Common.{◌≡◌, ℕ, zero, suc, ◌+◌, ◌*◌, ◌/◌, ◌%◌, ◌<◌, ◌≤◌, List, [], ◌∷◌, ◌++◌, map, length, take, refl, sym, ap, ◌∙◌, arith, ℤ, to_z, of_z, Fits, FitsSigned, w8, w16}
-use Rattle.std.proofs.lemmas.List.{length-take-le}
-use Rattle.std.proofs.lemmas.Simd.{take_more_put_chunk, length-chunk}
-use Rattle.std.proofs.Math.Seq.{take-add}
+use Rattle.std.proofs.Common.{◌≡◌, ℕ, zero, suc, ◌+◌, ◌*◌, ◌/◌, ◌%◌, ◌<◌, List, [], ◌∷◌, map, length, refl, ap, ◌∙◌, arith, ℤ, to_z, of_z, Fits, FitsSigned, w8, w16}
 use Rattle.std.proofs.Math.Facts.{Fits-of_z}
-use lib.Lanes.{Each1, number_l, digits_l, chunk, put_chunk}
+use lib.Lanes.{Each1, number_l, digits_l}
 use Rattle.pcm_ops.specs.Samples.{samples, bytes}
 use Rattle.pcm_ops.proofs.Maps.{cons_same}
-use Rattle.pcm_ops.proofs.ByteOrder.{bytes-append}
-
-abbrev pub twice : ℕ → ℕ
-twice zero = zero
-twice (suc n) = suc (suc (twice n))
+use Rattle.pcm_ops.proofs.ByteOrder.{twice}
 
 -- the number that bytes spell has the samples for its digits of 16 bits
 pub sample_digits : (n : ℕ) (bs : List ℕ) → length bs ≡ twice n → Each1 (Fits w8) bs → map (to_z w16) (digits_l 65536 n (number_l 256 bs)) ≡ samples bs
@@ -42,50 +35,3 @@ byte_digits (suc n) (x ∷ xs) e h =
     let high : (y + 65536 * rest) / 256 % 256 ≡ y / 256 = omega arith in
     let others : (y + 65536 * rest) / 256 / 256 ≡ rest = omega arith in
     cons_same _ _ _ _ low (cons_same _ _ _ _ high (ap (digits_l 256 (twice n)) others ∙ byte_digits n xs (omega arith) h.1))
-
-length-samples : (n : ℕ) (bs : List ℕ) → length bs ≡ twice n → length (samples bs) ≡ n
-unfolding samples
-length-samples zero [] e = refl
-length-samples zero (b ∷ bs) e = absurd (omega arith)
-length-samples (suc n) [] e = absurd (omega arith)
-length-samples (suc n) (a ∷ []) e = absurd (omega arith)
-length-samples (suc n) (a ∷ b ∷ bs) e = ap suc (length-samples n bs (omega arith))
-
-length-bytes : (xs : List ℤ) → length (bytes xs) ≡ twice (length xs)
-unfolding bytes
-length-bytes [] = refl
-length-bytes (x ∷ xs) = ap (λ n. suc (suc n)) (length-bytes xs)
-
-samples-append : (n : ℕ) (xs ys : List ℕ) → length xs ≡ twice n → samples (xs ++ ys) ≡ samples xs ++ samples ys
-unfolding samples
-samples-append zero [] ys e = refl
-samples-append zero (x ∷ xs) ys e = absurd (omega arith)
-samples-append (suc n) [] ys e = absurd (omega arith)
-samples-append (suc n) (a ∷ []) ys e = absurd (omega arith)
-samples-append (suc n) (a ∷ b ∷ xs) ys e = ap (λ l. to_z w16 (a + 256 * b) ∷ l) (samples-append n xs ys (omega arith))
-
-twice_is : (n : ℕ) → twice n ≡ 2 * n
-twice_is zero = refl
-twice_is (suc n) = omega (arith, twice_is n)
-
--- sixteen samples more
-pub sample_lanes : (bs : List ℕ) (to ys : List ℤ) (i : ℕ) → i + 16 ≤ length to → length bs ≡ 2 * length to → take i to ≡ samples (take (2 * i) bs)
-    → ys ≡ samples (chunk (2 * i) 32 bs) → take (i + 16) (put_chunk i to ys) ≡ samples (take (2 * (i + 16)) bs)
-sample_lanes bs to ys i le two before e =
-    let next : 2 * (i + 16) ≡ 2 * i + 32 = omega arith in
-    let within : 2 * i + 32 ≤ length bs = omega arith in
-    let long : length ys ≡ 16 = ap length e ∙ length-samples 16 (chunk (2 * i) 32 bs) (length-chunk (2 * i) 32 bs within) in
-    let front : length (take (2 * i) bs) ≡ twice i = length-take-le (2 * i) bs (omega arith) ∙ sym (twice_is i) in
-    take_more_put_chunk i to ys (i + 16) (omega arith) (omega arith)
-    ∙ ap (λ l. l ++ ys) before ∙ ap (λ l. samples (take (2 * i) bs) ++ l) e
-    ∙ sym (ap (λ n. samples (take n bs)) next ∙ ap samples (take-add (2 * i) 32 bs) ∙ samples-append i (take (2 * i) bs) (chunk (2 * i) 32 bs) front)
-
-pub byte_lanes : (xs : List ℤ) (to ys : List ℕ) (i : ℕ) → i + 16 ≤ length xs → length to ≡ 2 * length xs → take (2 * i) to ≡ bytes (take i xs)
-    → ys ≡ bytes (chunk i 16 xs) → take (2 * (i + 16)) (put_chunk (2 * i) to ys) ≡ bytes (take (i + 16) xs)
-byte_lanes xs to ys i le two before e =
-    let next : 2 * (i + 16) ≡ 2 * i + 32 = omega arith in
-    let long : length ys ≡ 32 = ap length e ∙ length-bytes (chunk i 16 xs) ∙ ap twice (length-chunk i 16 xs le) in
-    ap (λ n. take n (put_chunk (2 * i) to ys)) next
-    ∙ take_more_put_chunk (2 * i) to ys (2 * i + 32) (omega arith) (omega arith)
-    ∙ ap (λ l. l ++ ys) before ∙ ap (λ l. bytes (take i xs) ++ l) e
-    ∙ sym (ap bytes (take-add i 16 xs) ∙ bytes-append (take i xs) (chunk i 16 xs))

@@ -1,6 +1,6 @@
 -- A loop that fills a slice from another, a vector or an item at a time.
-use Rattle.std.proofs.Common.{◌≡◌, ℕ, suc, ◌+◌, ◌<◌, ◌≤◌, List, [], ◌∷◌, ◌++◌, map, length, get_or, take, set, sym, ap, subst, ◌∙◌, arith}
-use Rattle.std.proofs.lemmas.List.{take_more, take_more_set, length-map, take_all, map-append}
+use Rattle.std.proofs.Common.{◌≡◌, ℕ, suc, ◌+◌, ◌<◌, ◌≤◌, List, [], ◌∷◌, ◌++◌, map, length, get_or, take, drop, set, sym, ap, subst, ◌∙◌, arith}
+use Rattle.std.proofs.lemmas.List.{take_more, take_more_set, length-map, take_all, map-append, take-map, drop-map, drop_more}
 use Rattle.std.proofs.lemmas.Simd.{take_more_put_chunk, length-chunk, get_or-chunk}
 use Rattle.std.proofs.Math.Seq.{take-add}
 use lib.Lanes.{chunk, put_chunk, Each1}
@@ -32,3 +32,9 @@ pub each_in_chunk : {X : Type 0} (P : X → Type 0) (d : X) (xs : List X) (i n :
 each_in_chunk P d xs i n le h =
     let long = length-chunk i n xs le in
     each_by_index P d (chunk i n xs) (λ k l. subst P (sym (get_or-chunk i n xs k d (omega arith))) (h (i + k) (omega arith)))
+
+pub chunk-map : {X Y : Type 0} (f : X → Y) (i n : ℕ) (xs : List X) → chunk i n (map f xs) ≡ map f (chunk i n xs)
+chunk-map f i n xs = ap (take n) (drop-map f i xs) ∙ take-map f n (drop i xs)
+
+pub one_there : {X : Type 0} (xs : List X) (i : ℕ) (d x : X) → i < length xs → x ≡ get_or xs i d → (x ∷ []) ≡ chunk i 1 xs
+one_there xs i d x l e = ap (λ y. y ∷ []) e ∙ sym (ap (take 1) (drop_more xs i d l))

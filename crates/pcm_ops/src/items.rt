@@ -1,4 +1,4 @@
-//! Scaling and clamping, of one number and of sixteen lanes, and proofs that a slice's numbers fit their bits.
+//! Scaling and clamping, of one number and of sixteen lanes, and a proof that a slice's numbers fit their bits.
 
 ghost use Rattle.std.specs.Prelude.{◌≡◌, ◌<◌, ◌≤◌, ℕ, pos, length, map, FitsSigned, unsigned_abs, slice_index_or};
 ghost use Rattle.std.specs.Simd.Lanes.{Each1};
@@ -49,18 +49,8 @@ pub(crate) fn clamped_lanes(x: i32x16) -> i16x16
         .cast::<i16>()
 }
 
-/// Shows a proof that the items of a slice are samples of 16 bits. It does nothing, and no code is
+/// Shows a proof that the items of a slice are numbers of 32 bits. It does nothing, and no code is
 /// left of it.
-#[inline(always)]
-pub(crate) fn each_fits(samples: &[i16])
-    ensures { (k : ℕ) → k < length samples.now → FitsSigned w16 (slice_index_or samples.now k (pos 0)) }
-{
-    for sample in samples {
-        let _sample = *sample;
-    }
-}
-
-/// The same for numbers of 32 bits.
 #[inline(always)]
 pub(crate) fn each_sum_fits(sums: &[i32])
     ensures { (k : ℕ) → k < length sums.now → FitsSigned w32 (slice_index_or sums.now k (pos 0)) }

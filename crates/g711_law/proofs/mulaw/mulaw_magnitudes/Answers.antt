@@ -7,7 +7,8 @@ use Rattle.g711_law.specs.Alaw.{alaw_magnitude}
 use Rattle.g711_law.specs.Mulaw.{mulaw_magnitude}
 use Rattle.g711_law.proofs.Signs.{not_negative}
 use Rattle.pcm_ops.proofs.Maps.{map_again, map_where, zip_splat, zip_maps}
-use Rattle.g711_law.proofs.SignedLanes.{passed, fold_lane}
+use Rattle.pcm_ops.proofs.Bits.{passed}
+use Rattle.g711_law.proofs.SignedLanes.{fold_lane}
 use Rattle.g711_law.proofs.CurveLanes.{plus}
 use Rattle.g711_law.proofs.mulaw.mulaw_magnitudes.Goals as goal
 

@@ -1,47 +1,48 @@
-use Rattle.std.proofs.Common.{map, FitsSigned, pos, to_z, of_z, get_or, ap, sym, subst, ◌∙◌, refl, arith, w16, length-set}
-use Rattle.std.proofs.lemmas.List.{length-map}
-use Rattle.std.proofs.lemmas.Simd.{length-chunk, length-put_chunk}
+use Rattle.std.proofs.Common.{◌+◌, map, length, FitsSigned, pos, to_z, of_z, ap, sym, ◌∙◌, refl, arith, w16, length-set}
+use Rattle.std.proofs.lemmas.Simd.{length-put_chunk}
 use Rattle.std.proofs.lemmas.Int.{to_z-of_z}
-use lib.Lanes.{Each1, chunk}
-use Rattle.pcm_ops.proofs.Pieces.{vector_step, item_step, all_written, each_in_chunk}
-use Rattle.g711_law.proofs.SignedLanes.{passed}
+use Rattle.pcm_ops.specs.Samples.{samples}
+use Rattle.pcm_ops.proofs.Bits.{passed, passed_fit}
+use Rattle.pcm_ops.proofs.ByteOrder.{length-samples}
+use Rattle.pcm_ops.proofs.Pieces.{vector_step, item_step, all_written}
 use Rattle.g711_law.proofs.slices.encode_all.Goals as goal
 
-pub loop-i-init : goal.loop-i-init
-loop-i-init g c = record { within = omega arith; same_length = c.requires; written = refl }
-
-pub encode_lanes-requires-clause-len : goal.encode_lanes-requires-clause-len
-encode_lanes-requires-clause-len g c =
-    let part = chunk c.loop-i.i 16 c.args.from.now in
-    length-map (map (of_z w16) part) (to_z w16) ∙ length-map part (of_z w16) ∙ length-chunk c.loop-i.i 16 c.args.from.now (omega arith)
+pub loop-to-init : goal.loop-to-init
+loop-to-init g c = record { within = omega arith; two_each = c.requires; written = refl }
 
 pub encode_lanes-requires-clause-fits : goal.encode_lanes-requires-clause-fits
-encode_lanes-requires-clause-fits g c =
-    let part = each_in_chunk (FitsSigned w16) (pos 0) c.args.from.now c.loop-i.i 16 (omega arith) c.each_fits.ensures in
-    subst (Each1 (FitsSigned w16)) (sym (passed (chunk c.loop-i.i 16 c.args.from.now) part)) part
+encode_lanes-requires-clause-fits g c = passed_fit c.lanes_at.result c.lanes_at.ensures.fits
+
+pub loop-to-preserved : goal.loop-to-preserved
+loop-to-preserved g c =
+    let from = samples c.args.from.now in
+    let to = c.loop-to.to in
+    let i = c.loop-to.i in
+    let many = length-samples (length to) c.args.from.now c.loop-to.invariant.two_each in
+    let same = length-put_chunk i to c.encode_lanes.result in
+    let lanes = c.encode_lanes.ensures ∙ ap (map g.L.Compander.code) (passed c.lanes_at.result c.lanes_at.ensures.fits ∙ c.lanes_at.ensures.value) in
+    record {
+      within = omega (arith, same);
+      two_each = omega (arith, same, c.loop-to.invariant.two_each);
+      written = vector_step g.L.Compander.code from to c.encode_lanes.result i 16 (omega (arith, many)) many c.loop-to.invariant.written lanes;
+    }
 
 pub loop-i-preserved : goal.loop-i-preserved
 loop-i-preserved g c =
-    let from = c.args.from.now in
+    let from = samples c.args.from.now in
+    let to = c.loop-i.to in
     let i = c.loop-i.i in
-    let part = each_in_chunk (FitsSigned w16) (pos 0) from i 16 (omega arith) c.each_fits.ensures in
-    let lanes = c.encode_lanes.ensures ∙ ap (map g.L.Compander.code) (passed (chunk i 16 from) part) in
+    let many = length-samples (length to) c.args.from.now c.loop-i.invariant.two_each in
+    let same = length-set to i c.encode.result in
+    let fits : FitsSigned w16 c.sample_at.result = record { sfits = c.sample_at.type_inv } in
+    let item = c.encode.ensures ∙ ap g.L.Compander.code (to_z-of_z w16 c.sample_at.result fits ∙ c.sample_at.ensures) in
     record {
-      within = omega arith;
-      same_length = c.loop-i.invariant.same_length ∙ sym (length-put_chunk i c.loop-i.to c.encode_lanes.result);
-      written = vector_step g.L.Compander.code from c.loop-i.to c.encode_lanes.result i 16 (omega arith) c.loop-i.invariant.same_length c.loop-i.invariant.written lanes;
-    }
-
-pub loop-i-2-preserved : goal.loop-i-2-preserved
-loop-i-2-preserved g c =
-    let from = c.args.from.now in
-    let i = c.loop-i-2.i in
-    let item = c.encode.ensures ∙ ap g.L.Compander.code (to_z-of_z w16 (get_or from i (pos 0)) (c.each_fits.ensures i c.loop-i-2-test.true)) in
-    record {
-      within = omega arith;
-      same_length = c.loop-i-2.invariant.same_length ∙ sym (length-set c.loop-i-2.to i c.encode.result);
-      written = item_step g.L.Compander.code from c.loop-i-2.to i (pos 0) c.encode.result (omega arith) c.loop-i-2.invariant.same_length c.loop-i-2.invariant.written item;
+      within = omega (arith, same);
+      two_each = omega (arith, same, c.loop-i.invariant.two_each);
+      written = item_step g.L.Compander.code from to i (pos 0) c.encode.result (omega (arith, many)) many c.loop-i.invariant.written item;
     }
 
 pub returns : goal.returns
-returns g c = all_written g.L.Compander.code c.args.from.now _ c.loop-i-2.i (omega arith) c.loop-i-2.invariant.same_length c.loop-i-2.invariant.written
+returns g c =
+    let many = length-samples (length c.loop-i.to) c.args.from.now c.loop-i.invariant.two_each in
+    all_written g.L.Compander.code (samples c.args.from.now) _ c.loop-i.i (omega (arith, many)) many c.loop-i.invariant.written

@@ -8,7 +8,8 @@ use Rattle.g711_law.specs.Lines.{compressed}
 use Rattle.g711_law.proofs.AlawLaws.{encoded, small, code_below}
 use Rattle.g711_law.proofs.Signs.{cond_le}
 use Rattle.pcm_ops.proofs.Maps.{map_again, map_where, each_map, zip_splat, zip_maps}
-use Rattle.g711_law.proofs.SignedLanes.{passed, fold_lane}
+use Rattle.pcm_ops.proofs.Bits.{passed}
+use Rattle.g711_law.proofs.SignedLanes.{fold_lane}
 use Rattle.g711_law.proofs.CurveLanes.{down, plus}
 use Rattle.g711_law.proofs.alaw.ALawCompander.encode_lanes.Goals as goal
 

@@ -7,7 +7,7 @@ use Rattle.g711_law.specs.Lines.{compressed}
 use Rattle.g711_law.proofs.MulawLaws.{encoded, small, bottom, code_below}
 use Rattle.g711_law.proofs.Signs.{cond_le}
 use Rattle.pcm_ops.proofs.Maps.{map_again, map_where, each_map, zip_splat, splat_zip, zip_maps}
-use Rattle.g711_law.proofs.SignedLanes.{passed}
+use Rattle.pcm_ops.proofs.Bits.{passed}
 use Rattle.g711_law.proofs.CurveLanes.{down, plus, less}
 use Rattle.g711_law.proofs.mulaw.MuLawCompander.encode_lanes.Goals as goal
 
