@@ -6,6 +6,7 @@ pub mod Kinds
 pub mod ObjectLaws
 pub mod Objects
 pub mod Ready
+pub mod Registers
 pub mod Shapes
 pub mod Shown
 pub mod WholeFiles

@@ -56,8 +56,8 @@ fn new_encoder(alloc: Global, companding: Companding) -> Result<G711Encoder, Out
     ensures { IfOk result (λ encoder. ⟦<G711Encoder as Part>⟧.terms encoder ≡ default_terms (coder_kind companding)) }
 {
     let effect = match companding {
-        Companding::ALaw => Encoding::new(alloc, companding, PCM, ALAW)?,
-        Companding::MuLaw => Encoding::new(alloc, companding, PCM, MULAW)?,
+        Companding::ALaw => Encoding::new(companding, PCM, ALAW),
+        Companding::MuLaw => Encoding::new(companding, PCM, MULAW),
     };
     G711Encoder::new(alloc, effect)
 }
@@ -81,7 +81,7 @@ impl<S: Source, K: Sink> AnyPart<S, K> {
             Kind::Source => AnyPart::Source(WavSource::new(alloc, false, PCM)?),
             Kind::Late => AnyPart::Source(WavSource::new(alloc, true, PCM)?),
             Kind::Decoder => {
-                let effect = Decoding::new(alloc, ALAW, PCM)?;
+                let effect = Decoding::new(ALAW, PCM);
                 AnyPart::Decoder(G711Decoder::new(alloc, effect)?)
             }
             Kind::Alaw => AnyPart::Encoder(new_encoder(alloc, Companding::ALaw)?),

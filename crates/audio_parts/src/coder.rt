@@ -1,16 +1,13 @@
 //! The two compandings of G.711, code by code.
-ghost use Rattle.std.specs.Prelude.{◌≡◌, ◌*◌, ◌≤◌, [], ◌∷◌, length, map, vec_len, IfOk, None};
+ghost use Rattle.std.specs.Prelude.{◌≡◌, ◌*◌, [], ◌∷◌, length, None};
 ghost use Rattle.omx_types.specs.declared.kind.Kind.TheVariants as kinds;
-ghost use Rattle.part_forms.specs.Effects.{decoded, encoded, value_of, code_of, companding_of, coder_kind};
+ghost use Rattle.part_forms.specs.Effects.{decoded, encoded, companding_of, coder_kind};
 ghost use Rattle.part_forms.specs.Manners.{decoding, encoding};
 
-use crate::OutOfMemory;
-use crate::effect::{Effect, STEP_SAMPLES};
+use crate::effect::Effect;
 use crate::one_input::OneInput;
 use g711_law::{Companding, alaw_decode_all, alaw_encode_all, mulaw_decode_all, mulaw_encode_all};
 use omx_types::Format;
-use pcm_ops::{bytes_of, samples_of};
-use std::alloc::Global;
 
 /// The companding of coded samples.
 fn companding_of(format: Format) -> Companding
@@ -25,9 +22,10 @@ fn companding_of(format: Format) -> Companding
     }
 }
 
-fn decode(companding: Companding, from: &[u8], to: &mut [i16])
-    requires { length from.now ≡ length to.old }
-    ensures { to.new ≡ map (value_of companding) from.now }
+/// The bytes of the sample that each code stands for.
+fn decode(companding: Companding, from: &[u8], to: &mut [u8])
+    requires { length to.old ≡ 2 * length from.now }
+    ensures { to.new ≡ decoded companding from.now }
 {
     match companding {
         Companding::ALaw => alaw_decode_all(from, to),
@@ -35,9 +33,10 @@ fn decode(companding: Companding, from: &[u8], to: &mut [i16])
     }
 }
 
-fn encode(companding: Companding, from: &[i16], to: &mut [u8])
-    requires { length from.now ≡ length to.old }
-    ensures { to.new ≡ map (code_of companding) from.now }
+/// The code of each sample.
+fn encode(companding: Companding, from: &[u8], to: &mut [u8])
+    requires { length from.now ≡ 2 * length to.old }
+    ensures { to.new ≡ encoded companding from.now }
 {
     match companding {
         Companding::ALaw => alaw_encode_all(from, to),
@@ -56,8 +55,6 @@ pub type G711Encoder = OneInput<Encoding>;
 pub struct Decoding {
     pub(crate) input: Format,
     pub(crate) output: Format,
-    samples: Vec<i16>,
-    ghost room: { vec_len samples ≡ 4096 },
 }
 
 /// The code of each sample.
@@ -66,91 +63,26 @@ pub struct Encoding {
     companding: Companding,
     pub(crate) input: Format,
     pub(crate) output: Format,
-    samples: Vec<i16>,
-    ghost room: { vec_len samples ≡ 4096 },
 }
 
 impl Decoding {
-    pub(crate) fn new(alloc: Global, input: Format, output: Format) -> Result<Decoding, OutOfMemory>
-        ensures input { IfOk result (λ it. it.input ≡ input) }
-        ensures output { IfOk result (λ it. it.output ≡ output) }
+    pub(crate) fn new(input: Format, output: Format) -> Decoding
+        ensures { result ≡ record { input = input; output = output } }
     {
-        Ok(Decoding {
-            input,
-            output,
-            samples: vec![in alloc; 0; STEP_SAMPLES]?,
-        })
+        Decoding { input, output }
     }
 }
 
 impl Encoding {
-    pub(crate) fn new(
-        alloc: Global,
-        companding: Companding,
-        input: Format,
-        output: Format,
-    ) -> Result<Encoding, OutOfMemory>
-        ensures companding { IfOk result (λ it. it.companding ≡ companding) }
-        ensures input { IfOk result (λ it. it.input ≡ input) }
-        ensures output { IfOk result (λ it. it.output ≡ output) }
+    pub(crate) fn new(companding: Companding, input: Format, output: Format) -> Encoding
+        ensures { result ≡ record { companding = companding; input = input; output = output } }
     {
-        Ok(Encoding {
+        Encoding {
             companding,
             input,
             output,
-            samples: vec![in alloc; 0; STEP_SAMPLES]?,
-        })
+        }
     }
-}
-
-fn decode_bytes(companding: Companding, from: &[u8], samples: &mut [i16], to: &mut [u8])
-    requires from { length from.now ≡ length samples.old }
-    requires to { length to.old ≡ 2 * length samples.old }
-    ensures { to.new ≡ decoded companding from.now }
-{
-    decode(companding, from, samples);
-    bytes_of(samples, to);
-}
-
-fn encode_bytes(companding: Companding, from: &[u8], samples: &mut [i16], to: &mut [u8])
-    requires from { length from.now ≡ 2 * length samples.old }
-    requires to { length to.old ≡ length samples.old }
-    ensures { to.new ≡ encoded companding from.now }
-{
-    samples_of(from, samples);
-    encode(companding, samples, to);
-}
-
-/// `decode_bytes` with the front of the register.
-fn decode_front(
-    companding: Companding,
-    from: &[u8],
-    samples: &mut [i16],
-    count: usize,
-    to: &mut [u8],
-)
-    requires from { length from.now ≡ count }
-    requires samples { count ≤ length samples.old }
-    requires to { length to.old ≡ count * 2 }
-    ensures { to.new ≡ decoded companding from.now }
-{
-    decode_bytes(companding, from, &mut samples[..count], to);
-}
-
-/// `encode_bytes` with the front of the register.
-fn encode_front(
-    companding: Companding,
-    from: &[u8],
-    samples: &mut [i16],
-    count: usize,
-    to: &mut [u8],
-)
-    requires from { length from.now ≡ count * 2 }
-    requires samples { count ≤ length samples.old }
-    requires to { length to.old ≡ count }
-    ensures { to.new ≡ encoded companding from.now }
-{
-    encode_bytes(companding, from, &mut samples[..count], to);
 }
 
 impl Effect for Decoding {
@@ -171,13 +103,7 @@ impl Effect for Decoding {
     }
 
     fn apply(&mut self, count: usize, from: &[u8], to: &mut [u8]) {
-        decode_front(
-            companding_of(self.input),
-            from,
-            &mut self.samples,
-            count,
-            to,
-        );
+        decode(companding_of(self.input), from, to);
     }
 
     fn set_format(&mut self, port: u32, format: Format) {
@@ -208,7 +134,7 @@ impl Effect for Encoding {
     }
 
     fn apply(&mut self, count: usize, from: &[u8], to: &mut [u8]) {
-        encode_front(self.companding, from, &mut self.samples, count, to);
+        encode(self.companding, from, to);
     }
 
     fn set_format(&mut self, port: u32, format: Format) {

@@ -7,9 +7,6 @@ ghost use Rattle.part_forms.specs.Manners.{Manner};
 
 use omx_types::Format;
 
-/// The most samples of a step.
-pub(crate) const STEP_SAMPLES: usize = 4096;
-
 /// What a part with one input makes of it, for each of its outputs.
 pub trait Effect: Drop {
     ghost manner: { Self → Manner };

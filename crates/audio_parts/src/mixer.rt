@@ -9,11 +9,13 @@ ghost use Rattle.part_forms.specs.Mixing.{mixing, Carries};
 ghost use Rattle.audio_parts.specs.Ready.{IsReady};
 
 use crate::OutOfMemory;
-use crate::effect::STEP_SAMPLES;
 use omx_types::{Format, PartFault};
 use part_api::Part;
-use pcm_ops::{bytes_of, clamp_into, mix_into, samples_of};
+use pcm_ops::{clamp_into, mix_into};
 use std::alloc::Global;
+
+/// The most samples of a step.
+const STEP_SAMPLES: usize = 4096;
 
 /// The weighted sum of its inputs, clamped.
 #[derive(Drop)]
@@ -26,7 +28,6 @@ pub struct Mixer {
     /// Which inputs were taken in this step.
     taken: Vec<bool>,
     sums: Vec<i32>,
-    samples: Vec<i16>,
     /// The frames of the step, and their samples.
     frames: u32,
     count: usize,
@@ -36,55 +37,29 @@ pub struct Mixer {
     ghost not_many: { vec_len weights ≤ 8 },
     ghost small: { All (λ weight. weight ≤ 65535) weights.items },
     ghost sums_room: { vec_len sums ≡ 4096 },
-    ghost samples_room: { vec_len samples ≡ 4096 },
     ghost few: { count ≤ 4096 },
     ghost bounded: { All (λ sum. unsigned_abs sum ≤ 524280 * count_by (λ is_taken. is_taken) taken.items) (take count sums.items) },
 }
 
-/// Adds the weighted samples of a piece to the sums.
-fn mix_piece(sums: &mut [i32], piece: &[u8], weight: u32, scratch: &mut [i16])
-    requires small { weight ≤ 65535 }
-    requires piece { length piece.now ≡ 2 * length scratch.old }
-    requires same_length { length scratch.old ≡ length sums.old }
-    requires room { All IsSum sums.old }
-    ensures value { sums.new ≡ zip2 (mixed weight) sums.old (samples piece.now) }
-    ensures grows { (b : ℕ) → All (λ s. unsigned_abs s ≤ b) sums.old → All (λ s. unsigned_abs s ≤ b + 524280) sums.new }
-{
-    samples_of(piece, scratch);
-    mix_into(sums, scratch, weight);
-}
-
-/// The same for the sums and samples of a step.
-fn mix_front(sums: &mut [i32], piece: &[u8], weight: u32, scratch: &mut [i16], count: usize)
+/// Adds the weighted samples of a piece to the sums of a step.
+fn mix_front(sums: &mut [i32], piece: &[u8], weight: u32, count: usize)
     requires small { weight ≤ 65535 }
     requires piece { length piece.now ≡ count * 2 }
     requires sums { count ≤ length sums.old }
-    requires scratch { count ≤ length scratch.old }
     requires room { All IsSum (take count sums.old) }
     ensures value { take count sums.new ≡ zip2 (mixed weight) (take count sums.old) (samples piece.now) }
     ensures grows { (b : ℕ) → All (λ s. unsigned_abs s ≤ b) (take count sums.old) → All (λ s. unsigned_abs s ≤ b + 524280) (take count sums.new) }
 {
-    mix_piece(&mut sums[..count], piece, weight, &mut scratch[..count]);
+    mix_into(&mut sums[..count], piece, weight);
 }
 
-/// The bytes of the clamped sums.
-fn put_sums(sums: &[i32], scratch: &mut [i16], piece: &mut [u8])
-    requires same_length { length sums.now ≡ length scratch.old }
-    requires piece { length piece.old ≡ 2 * length scratch.old }
-    ensures { piece.new ≡ bytes (map clamped sums.now) }
-{
-    clamp_into(sums, scratch);
-    bytes_of(scratch, piece);
-}
-
-/// The same for the sums of a step.
-fn put_front(sums: &[i32], scratch: &mut [i16], count: usize, piece: &mut [u8])
+/// The bytes of the clamped sums of a step.
+fn put_front(sums: &[i32], count: usize, piece: &mut [u8])
     requires sums { count ≤ length sums.now }
-    requires scratch { count ≤ length scratch.old }
     requires piece { length piece.old ≡ count * 2 }
     ensures { piece.new ≡ bytes (map clamped (take count sums.now)) }
 {
-    put_sums(&sums[..count], &mut scratch[..count], piece);
+    clamp_into(&sums[..count], piece);
 }
 
 fn clear_sums(sums: &mut [i32], count: usize)
@@ -117,7 +92,6 @@ impl Mixer {
             weights,
             taken,
             sums: vec![in alloc; 0; STEP_SAMPLES]?,
-            samples: vec![in alloc; 0; STEP_SAMPLES]?,
             frames: 0,
             count: 0,
         })
@@ -209,13 +183,7 @@ impl Part for Mixer {
     fn take(&mut self, input: u32, piece: &[u8]) {
         let at = input as usize;
         self.taken[at] = true;
-        mix_front(
-            &mut self.sums,
-            piece,
-            self.weights[at],
-            &mut self.samples,
-            self.count,
-        );
+        mix_front(&mut self.sums, piece, self.weights[at], self.count);
     }
 
     fn step(&mut self) -> Option<PartFault> {
@@ -223,7 +191,7 @@ impl Part for Mixer {
     }
 
     fn put(&mut self, _output: u32, piece: &mut [u8]) {
-        put_front(&self.sums, &mut self.samples, self.count, piece);
+        put_front(&self.sums, self.count, piece);
     }
 
     fn joins(&self) {}

@@ -1,13 +1,14 @@
 //! A part with one input: it keeps a step's samples in a register, and each output is an effect of them.
 
-ghost use Rattle.std.specs.Prelude.{◌≡◌, ◌+◌, ◌*◌, ◌<◌, ◌≤◌, false, length, take, vec_len, IfOk, None, []};
+ghost use Rattle.std.specs.Prelude.{◌≡◌, ◌+◌, ◌*◌, ◌<◌, ◌≤◌, false, length, IfOk, None, []};
 ghost use Rattle.audio_parts.specs.Kinds.{with_format};
 ghost use Rattle.audio_parts.specs.Ready.{IsReady};
+ghost use Rattle.audio_parts.specs.Registers.{front_of};
 ghost use Rattle.part_forms.specs.Manners.{through};
 
 use crate::OutOfMemory;
 use crate::effect::Effect;
-use crate::register::{clear_front, set_front};
+use crate::register::Register;
 use omx_types::{Format, PartFault};
 use part_api::Part;
 use std::alloc::Global;
@@ -16,11 +17,10 @@ use std::alloc::Global;
 #[derive(Drop)]
 pub struct OneInput<E> {
     pub(crate) effect: E,
-    register: Vec<u8>,
+    register: Register,
     /// The frames of the step, and their samples.
     frames: u32,
     count: usize,
-    ghost room: { vec_len register ≡ 8192 },
     ghost few: { count ≤ 4096 },
 }
 
@@ -30,7 +30,7 @@ impl<E: Effect> OneInput<E> {
     {
         Ok(OneInput {
             effect,
-            register: vec![in alloc; 0; 8192]?,
+            register: Register::new(alloc)?,
             frames: 0,
             count: 0,
         })
@@ -64,7 +64,7 @@ impl<E: Effect> Part for OneInput<E> {
 
     ghost sizes = { λ part. record { frames = part.frames; input = part.count * (E.manner part.effect).input_width; output = part.count * (E.manner part.effect).output_width } };
 
-    ghost carries = { λ part incoming. take (part.count * (E.manner part.effect).input_width) part.register.items ≡ incoming.input 0 };
+    ghost carries = { λ part incoming. front_of part.register.silent (part.count * (E.manner part.effect).input_width) part.register.bytes.items ≡ incoming.input 0 };
 
     ghost terms = { λ part. E.terms part.effect };
 
@@ -98,13 +98,12 @@ impl<E: Effect> Part for OneInput<E> {
     fn begin(&mut self, frames: u32) {
         self.frames = frames;
         self.count = (frames * self.effect.channels()) as usize;
-        let length = self.count * self.effect.input_width();
-        clear_front(&mut self.register, length);
+        self.register.begin();
     }
 
     fn take(&mut self, _input: u32, piece: &[u8]) {
         let length = self.count * self.effect.input_width();
-        set_front(&mut self.register, piece, length);
+        self.register.set(piece, length);
     }
 
     fn step(&mut self) -> Option<PartFault> {
@@ -113,8 +112,9 @@ impl<E: Effect> Part for OneInput<E> {
 
     fn put(&mut self, _output: u32, piece: &mut [u8]) {
         let length = self.count * self.effect.input_width();
+        self.register.settle(length);
         self.effect
-            .apply(self.count, &self.register[..length], piece);
+            .apply(self.count, &self.register.bytes[..length], piece);
     }
 
     fn joins(&self) {

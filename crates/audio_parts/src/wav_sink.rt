@@ -1,16 +1,17 @@
 //! The part of a WAV sink: its file comes and goes, and a step's frames are written to it.
 
-ghost use Rattle.std.specs.Prelude.{◌≡◌, ◌*◌, ◌≤◌, true, false, take, vec_len, IfOk, None, Some, option_copied, option_map};
+ghost use Rattle.std.specs.Prelude.{◌≡◌, ◌*◌, ◌≤◌, true, false, IfOk, None, Some, option_copied, option_map};
 ghost use Rattle.std.specs.Option.{ForSome};
 ghost use Rattle.omx_types.specs.Formats.{IsWithinLimits, frame_bytes_of};
 ghost use Rattle.audio_parts.specs.Causes.{WriteCause};
 ghost use Rattle.audio_parts.specs.FileParts.{sink_terms, writing_of};
 ghost use Rattle.audio_parts.specs.Objects.{BothOrNone, OnBoth, SinkShows, SinkStays, StaysUnfailed, WrittenStays};
 ghost use Rattle.audio_parts.specs.Ready.{IsReady};
+ghost use Rattle.audio_parts.specs.Registers.{front_of};
 ghost use Rattle.part_forms.specs.Sinking.{sinking, sink_sizes, writes_of};
 
 use crate::OutOfMemory;
-use crate::register::{clear_front, set_front};
+use crate::register::Register;
 use crate::sink_file::SinkFile;
 use omx_types::{Format, PartFault};
 use outside_io::Sink;
@@ -23,7 +24,7 @@ pub struct WavSink<K: Sink> {
     file: Option<SinkFile<K>>,
     /// The format of its input.
     format: Format,
-    register: Vec<u8>,
+    register: Register,
     /// The frames of the step, and their bytes.
     frames: u32,
     length: usize,
@@ -32,7 +33,6 @@ pub struct WavSink<K: Sink> {
     /// A step answered a fault.
     failed: bool,
     ghost lawful: { IsWithinLimits format },
-    ghost room: { vec_len register ≡ 8192 },
     ghost whole: { length ≡ frames * frame_bytes_of format },
     ghost small: { length ≤ 8192 },
     ghost unfailed: { due ≡ true → failed ≡ false },
@@ -47,11 +47,10 @@ impl<K: Sink> WavSink<K> {
         ensures format { IfOk result (λ part. part.format ≡ format) }
         ensures failed { IfOk result (λ part. part.failed ≡ false) }
     {
-        let register = vec![in alloc; 0; 8192]?;
         Ok(WavSink {
             file: None,
             format,
-            register,
+            register: Register::new(alloc)?,
             frames: 0,
             length: 0,
             due: false,
@@ -152,7 +151,7 @@ impl<K: Sink> Part for WavSink<K> {
 
     ghost sizes = { λ part. sink_sizes part.frames part.length };
 
-    ghost carries = { λ part incoming. take part.length part.register.items ≡ incoming.input 0 };
+    ghost carries = { λ part incoming. front_of part.register.silent part.length part.register.bytes.items ≡ incoming.input 0 };
 
     ghost terms = { λ part. sink_terms part.format part.file };
 
@@ -187,11 +186,11 @@ impl<K: Sink> Part for WavSink<K> {
         self.frames = frames;
         self.length = (frames * self.format.frame_bytes()) as usize;
         self.due = true;
-        clear_front(&mut self.register, self.length);
+        self.register.begin();
     }
 
     fn take(&mut self, _input: u32, piece: &[u8]) {
-        set_front(&mut self.register, piece, self.length);
+        self.register.set(piece, self.length);
     }
 
     fn step(&mut self) -> Option<PartFault> {
@@ -199,7 +198,12 @@ impl<K: Sink> Part for WavSink<K> {
             self.due = false;
             return None;
         };
-        match file.write(self.format, &self.register[..self.length], self.frames) {
+        self.register.settle(self.length);
+        match file.write(
+            self.format,
+            &self.register.bytes[..self.length],
+            self.frames,
+        ) {
             Ok(()) => {
                 self.due = false;
                 None
@@ -213,7 +217,8 @@ impl<K: Sink> Part for WavSink<K> {
     }
 
     fn put(&mut self, _output: u32, piece: &mut [u8]) {
-        piece.copy_from_slice(&self.register[..self.length]);
+        self.register.settle(self.length);
+        piece.copy_from_slice(&self.register.bytes[..self.length]);
     }
 
     fn joins(&self) {}

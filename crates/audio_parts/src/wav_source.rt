@@ -1,6 +1,6 @@
 //! The part of a WAV source: its file comes and goes, and a step reads the next frames of it.
 
-ghost use Rattle.std.specs.Prelude.{◌≡◌, ◌+◌, ◌*◌, ◌<◌, ◌≤◌, true, false, [], length, take, vec_len, option_map, IfOk, None, Some};
+ghost use Rattle.std.specs.Prelude.{◌≡◌, ◌+◌, ◌*◌, ◌<◌, ◌≤◌, true, false, [], length, vec_len, option_map, IfOk, None, Some};
 ghost use Rattle.std.specs.Option.{ForSome};
 ghost use Rattle.omx_types.specs.Formats.{IsWithinLimits, frame_bytes_of};
 ghost use Rattle.audio_parts.specs.Causes.{ReadCause};
@@ -9,9 +9,9 @@ ghost use Rattle.audio_parts.specs.Objects.{BothOrNone, OnBoth, ReadStays, Sourc
 ghost use Rattle.part_api.specs.Streams.{Incoming};
 ghost use Rattle.part_forms.specs.Files.{sourcing, rest_of, none_left};
 ghost use Rattle.audio_parts.specs.Ready.{IsReady};
+ghost use Rattle.audio_parts.specs.Registers.{front_of};
 
 use crate::OutOfMemory;
-use crate::register::clear_front;
 use crate::source_file::SourceFile;
 use omx_types::{Format, PartFault};
 use outside_io::Source;
@@ -174,7 +174,7 @@ impl<S: Source> Part for WavSource<S> {
 
     ghost sizes = { λ part. record { frames = part.frames; input = 0; output = part.length } };
 
-    ghost carries = { λ part incoming. take part.length part.register.items ≡ incoming.file };
+    ghost carries = { λ part incoming. front_of part.due part.length part.register.items ≡ incoming.file };
 
     ghost terms = { λ part. source_terms part.late part.format part.file };
 
@@ -209,7 +209,6 @@ impl<S: Source> Part for WavSource<S> {
         self.frames = frames;
         self.length = (frames * self.format.frame_bytes()) as usize;
         self.due = true;
-        clear_front(&mut self.register, self.length);
     }
 
     fn take(&mut self, _input: u32, _piece: &[u8]) {}

@@ -8,7 +8,7 @@ use lib.Signed.{lt_z, non_neg}
 use lib.Lanes.{zip2, sel_l, top, Each1}
 use Rattle.g711_law.specs.Alaw.{alaw_magnitude}
 use Rattle.g711_law.proofs.CurveLanes.{ap2}
-use Rattle.pcm_ops.proofs.Maps.{map_again, map_itself, each_map}
+use Rattle.pcm_ops.proofs.Maps.{each_map}
 use mir.Val.{Fits}
 use lib.Dec.{T}
 

@@ -1,4 +1,4 @@
-use Rattle.std.proofs.Common.{◌+◌, map, length, FitsSigned, pos, to_z, of_z, ap, sym, ◌∙◌, refl, arith, w16, length-set}
+use Rattle.std.proofs.Common.{map, length, FitsSigned, pos, ap, ◌∙◌, refl, arith, w16, length-set}
 use Rattle.std.proofs.lemmas.Simd.{length-put_chunk}
 use Rattle.std.proofs.lemmas.Int.{to_z-of_z}
 use Rattle.pcm_ops.specs.Samples.{samples}

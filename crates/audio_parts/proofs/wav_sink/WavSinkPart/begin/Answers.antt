@@ -9,12 +9,6 @@ overflow_mul-self g c =
     subst (λ n. c.args.frames * n ≤ 8192) (sym c.frame_bytes.ensures) (few_bytes c.args.self.now.format c.args.frames c.args.self.now.lawful c.requires.few) in
     omega (arith, few)
 
-pub clear_front-requires : goal.clear_front-requires
-clear_front-requires g c =
-    let few : c.args.frames * c.frame_bytes.result ≤ 8192 =
-    subst (λ n. c.args.frames * n ≤ 8192) (sym c.frame_bytes.ensures) (few_bytes c.args.self.now.format c.args.frames c.args.self.now.lawful c.requires.few) in
-    omega (arith, few, c.args.self.now.room, c.deref_mut.ensures.len, ap length c.deref_mut.ensures.value, c.args.self.now.register.ok.0)
-
 pub invariant_of-self-clause-agrees : goal.invariant_of-self-clause-agrees
 invariant_of-self-clause-agrees g c = λ due.
     let part = c.args.self.now in
