@@ -1,5 +1,5 @@
 -- Causes over several steps.
-use Rattle.std.proofs.Common.{◌≡◌, ℕ, ◌≤◌, max, arith}
+use Rattle.std.proofs.Common.{◌≡◌, ℕ, ◌≤◌, max}
 use Rattle.std.specs.Prelude.{Option, None, Some}
 use Rattle.omx_types.specs.declared.fault.PartFault.{PartFault}
 use Rattle.outside_io.specs.Moves.{WhereTold}

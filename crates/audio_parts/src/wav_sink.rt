@@ -47,10 +47,11 @@ impl<K: Sink> WavSink<K> {
         ensures format { IfOk result (λ part. part.format ≡ format) }
         ensures failed { IfOk result (λ part. part.failed ≡ false) }
     {
+        let register = Register::new(alloc)?;
         Ok(WavSink {
             file: None,
             format,
-            register: Register::new(alloc)?,
+            register,
             frames: 0,
             length: 0,
             due: false,

@@ -1,12 +1,12 @@
-//! Times each slice form of the kernels beside a copy of as many samples. Figures come only with
+//! Times each kernel, from bytes to bytes, beside a copy of as many samples. Figures come only with
 //! the word `figures`.
 #![tactic(auto)]
 
-ghost use Rattle.std.specs.Prelude.{◌≡◌, ◌*◌, ◌≤◌, length, All, IfOk};
+ghost use Rattle.std.specs.Prelude.{◌≡◌, ◌*◌, ◌%◌, ◌≤◌, length, All, IfOk};
 ghost use Rattle.pcm_ops.specs.Samples.{IsSum};
 
 use g711_law::{alaw_decode_all, alaw_encode_all, mulaw_decode_all, mulaw_encode_all};
-use pcm_ops::{bytes_of, clamp_into, copy_into, gain_into, mix_into, samples_of};
+use pcm_ops::{clamp_into, copy_into, gain_into, mix_into};
 use std::alloc::Global;
 use std::time::{Duration, Instant};
 use std::{env, io};
@@ -24,40 +24,41 @@ fn copies(from: &[u8], to: &mut [u8])
     }
 }
 
-fn alaw_encodes(from: &[i16], to: &mut [u8])
-    requires { length from.now ≡ length to.old }
+fn alaw_encodes(from: &[u8], to: &mut [u8])
+    requires { length from.now ≡ 2 * length to.old }
 {
     for _ in 0..PIECES {
         alaw_encode_all(from, to);
     }
 }
 
-fn alaw_decodes(from: &[u8], to: &mut [i16])
-    requires { length from.now ≡ length to.old }
+fn alaw_decodes(from: &[u8], to: &mut [u8])
+    requires { length to.old ≡ 2 * length from.now }
 {
     for _ in 0..PIECES {
         alaw_decode_all(from, to);
     }
 }
 
-fn mulaw_encodes(from: &[i16], to: &mut [u8])
-    requires { length from.now ≡ length to.old }
+fn mulaw_encodes(from: &[u8], to: &mut [u8])
+    requires { length from.now ≡ 2 * length to.old }
 {
     for _ in 0..PIECES {
         mulaw_encode_all(from, to);
     }
 }
 
-fn mulaw_decodes(from: &[u8], to: &mut [i16])
-    requires { length from.now ≡ length to.old }
+fn mulaw_decodes(from: &[u8], to: &mut [u8])
+    requires { length to.old ≡ 2 * length from.now }
 {
     for _ in 0..PIECES {
         mulaw_decode_all(from, to);
     }
 }
 
-fn gains(from: &[i16], to: &mut [i16])
-    requires { length from.now ≡ length to.old }
+fn gains(from: &[u8], to: &mut [u8])
+    requires whole { length from.now % 2 ≡ 0 }
+    requires same_length { length from.now ≡ length to.old }
 {
     for _ in 0..PIECES {
         gain_into(from, 5000, to);
@@ -72,8 +73,8 @@ fn clear(sum: &mut [i32])
 }
 
 /// Each mix begins with sums of 0.
-fn mixes(sum: &mut [i32], from: &[i16])
-    requires { length from.now ≡ length sum.old }
+fn mixes(sum: &mut [i32], from: &[u8])
+    requires { length from.now ≡ 2 * length sum.old }
 {
     for _ in 0..PIECES {
         clear(sum);
@@ -81,27 +82,11 @@ fn mixes(sum: &mut [i32], from: &[i16])
     }
 }
 
-fn clamps(sum: &[i32], to: &mut [i16])
-    requires { length sum.now ≡ length to.old }
+fn clamps(sum: &[i32], to: &mut [u8])
+    requires { length to.old ≡ 2 * length sum.now }
 {
     for _ in 0..PIECES {
         clamp_into(sum, to);
-    }
-}
-
-fn readings(bytes: &[u8], to: &mut [i16])
-    requires { length bytes.now ≡ 2 * length to.old }
-{
-    for _ in 0..PIECES {
-        samples_of(bytes, to);
-    }
-}
-
-fn writings(from: &[i16], to: &mut [u8])
-    requires { length to.old ≡ 2 * length from.now }
-{
-    for _ in 0..PIECES {
-        bytes_of(from, to);
     }
 }
 
@@ -119,41 +104,34 @@ fn report(rt: &HostRuntime, name: &str, copy: Duration, time: Duration) -> io::R
     println!(rt; "{name}: {speed} million a second, {ratio} hundredths of the copy")
 }
 
-fn made_samples(alloc: Global) -> io::Result<Vec<i16>>
-    ensures { IfOk result (λ samples. length samples.items ≡ 4096) }
+/// The bytes of the samples of a piece.
+fn made_samples(alloc: Global) -> io::Result<Vec<u8>>
+    ensures { IfOk result (λ samples. length samples.items ≡ 8192) }
 {
-    let mut samples = vec![in alloc; 0_i16; PIECE]?;
+    let mut samples = vec![in alloc; 0_u8; 2 * PIECE]?;
     for i in 0..samples.len() {
-        samples[i] = (i as u16).wrapping_mul(40_503).cast_signed();
+        samples[i] = (i % 251) as u8;
     }
     Ok(samples)
 }
 
-/// The copy, to which each form is compared, and the forms between bytes and samples.
-fn byte_figures(rt: &HostRuntime, samples: &[i16]) -> io::Result<Duration>
-    requires { length samples.now ≡ 4096 }
+/// The copy, to which each form is compared.
+fn copy_figure(rt: &HostRuntime, samples: &[u8]) -> io::Result<Duration>
+    requires { length samples.now ≡ 8192 }
 {
-    let mut to = vec![in rt.alloc(); 0_i16; PIECE]?;
-    let mut bytes = vec![in rt.alloc(); 0_u8; 2 * PIECE]?;
     let mut copied = vec![in rt.alloc(); 0_u8; 2 * PIECE]?;
     let start = Instant::now(rt)?;
-    copies(&bytes, &mut copied);
+    copies(samples, &mut copied);
     let copy = start.elapsed(rt)?;
     report(rt, "copy", copy, copy)?;
-    let start = Instant::now(rt)?;
-    writings(samples, &mut bytes);
-    report(rt, "bytes of samples", copy, start.elapsed(rt)?)?;
-    let start = Instant::now(rt)?;
-    readings(&bytes, &mut to);
-    report(rt, "samples of bytes", copy, start.elapsed(rt)?)?;
-    println!(rt; "last items: {} {}", to[PIECE - 1], copied[PIECE - 1])?;
+    println!(rt; "last item: {}", copied[2 * PIECE - 1])?;
     Ok(copy)
 }
 
-fn law_figures(rt: &HostRuntime, copy: Duration, samples: &[i16]) -> io::Result<()>
-    requires { length samples.now ≡ 4096 }
+fn law_figures(rt: &HostRuntime, copy: Duration, samples: &[u8]) -> io::Result<()>
+    requires { length samples.now ≡ 8192 }
 {
-    let mut to = vec![in rt.alloc(); 0_i16; PIECE]?;
+    let mut to = vec![in rt.alloc(); 0_u8; 2 * PIECE]?;
     let mut codes = vec![in rt.alloc(); 0_u8; PIECE]?;
     let start = Instant::now(rt)?;
     alaw_encodes(samples, &mut codes);
@@ -167,13 +145,13 @@ fn law_figures(rt: &HostRuntime, copy: Duration, samples: &[i16]) -> io::Result<
     let start = Instant::now(rt)?;
     mulaw_decodes(&codes, &mut to);
     report(rt, "mu-law decode", copy, start.elapsed(rt)?)?;
-    println!(rt; "last items: {} {}", codes[PIECE - 1], to[PIECE - 1])
+    println!(rt; "last items: {} {}", codes[PIECE - 1], to[2 * PIECE - 1])
 }
 
-fn sample_figures(rt: &HostRuntime, copy: Duration, samples: &[i16]) -> io::Result<()>
-    requires { length samples.now ≡ 4096 }
+fn sample_figures(rt: &HostRuntime, copy: Duration, samples: &[u8]) -> io::Result<()>
+    requires { length samples.now ≡ 8192 }
 {
-    let mut to = vec![in rt.alloc(); 0_i16; PIECE]?;
+    let mut to = vec![in rt.alloc(); 0_u8; 2 * PIECE]?;
     let mut sum = vec![in rt.alloc(); 0_i32; PIECE]?;
     let start = Instant::now(rt)?;
     gains(samples, &mut to);
@@ -184,12 +162,12 @@ fn sample_figures(rt: &HostRuntime, copy: Duration, samples: &[i16]) -> io::Resu
     let start = Instant::now(rt)?;
     clamps(&sum, &mut to);
     report(rt, "clamp", copy, start.elapsed(rt)?)?;
-    println!(rt; "last items: {} {}", sum[PIECE - 1], to[PIECE - 1])
+    println!(rt; "last items: {} {}", sum[PIECE - 1], to[2 * PIECE - 1])
 }
 
 fn figures(rt: &HostRuntime) -> io::Result<()> {
     let samples = made_samples(rt.alloc())?;
-    let copy = byte_figures(rt, &samples)?;
+    let copy = copy_figure(rt, &samples)?;
     law_figures(rt, copy, &samples)?;
     sample_figures(rt, copy, &samples)
 }

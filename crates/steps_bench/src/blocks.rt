@@ -1,6 +1,6 @@
 //! Blocks of 4,096 bytes that a gain works on, beside what its kernel alone takes on the same samples.
 
-ghost use Rattle.std.specs.Prelude.{◌≡◌, length};
+ghost use Rattle.std.specs.Prelude.{◌≡◌, ◌%◌, length};
 ghost use Rattle.il_machine.specs.Look.{Look};
 ghost use Rattle.graph_core.specs.Changes.{IsHandedIn};
 ghost use Rattle.il_graph.specs.Shown.{look_of};
@@ -12,14 +12,14 @@ use header_core::Header;
 use il_graph::{Graph, NoFile};
 use note_queues::ProgressClient;
 use omx_types::{Command, Handle, Param, PortSel, State};
-use pcm_ops::{bytes_of, gain_into};
+use pcm_ops::gain_into;
 use std::io;
 use std::time::{Duration, Instant};
 
 type Gains = Graph<NoFile, NoFile, ProgressClient>;
 
-/// The samples of a block of 4,096 bytes.
-const SAMPLES: usize = 2048;
+/// The bytes of a block.
+const BYTES: usize = 4096;
 
 /// How many blocks a turn has, and how often both are timed.
 const BLOCKS: u32 = 20_000;
@@ -145,8 +145,9 @@ fn time_readings<R: Host>(rt: &R) -> Result<u128, Stopped> {
 }
 
 /// The kernel alone on as many blocks.
-fn time_kernel<R: Host>(rt: &R, from: &[i16], to: &mut [i16]) -> Result<u128, Stopped>
-    requires { length from.now ≡ length to.old }
+fn time_kernel<R: Host>(rt: &R, from: &[u8], to: &mut [u8]) -> Result<u128, Stopped>
+    requires whole { length from.now % 2 ≡ 0 }
+    requires same_length { length from.now ≡ length to.old }
 {
     let start = Instant::now(rt)?;
     for _ in 0..BLOCKS {
@@ -164,13 +165,9 @@ struct Times {
 }
 
 /// The cases take turns.
-fn take_turns<R: Host>(
-    rt: &R,
-    samples: &[i16],
-    to: &mut [i16],
-    bytes: &[u8],
-) -> Result<Times, Stopped>
-    requires { length samples.now ≡ length to.old }
+fn take_turns<R: Host>(rt: &R, bytes: &[u8], to: &mut [u8]) -> Result<Times, Stopped>
+    requires whole { length bytes.now % 2 ≡ 0 }
+    requires same_length { length bytes.now ≡ length to.old }
 {
     let mut best = Times {
         readings: u128::MAX,
@@ -179,7 +176,7 @@ fn take_turns<R: Host>(
     };
     for _ in 0..TURNS {
         best.readings = best.readings.min(time_readings(rt)?);
-        best.kernel = best.kernel.min(time_kernel(rt, samples, to)?);
+        best.kernel = best.kernel.min(time_kernel(rt, bytes, to)?);
         best.works = best.works.min(time_works(rt, bytes)?);
     }
     Ok(best)
@@ -187,14 +184,12 @@ fn take_turns<R: Host>(
 
 /// The best times.
 fn best_times<R: Host>(rt: &R) -> Result<Times, Stopped> {
-    let mut samples = vec![in rt.alloc(); 0_i16; SAMPLES]?;
-    for i in 0..samples.len() {
-        samples[i] = (i as u16).wrapping_mul(40_503).cast_signed();
+    let mut bytes = vec![in rt.alloc(); 0_u8; BYTES]?;
+    for i in 0..bytes.len() {
+        bytes[i] = (i % 251) as u8;
     }
-    let mut to = vec![in rt.alloc(); 0_i16; SAMPLES]?;
-    let mut bytes = vec![in rt.alloc(); 0_u8; 2 * SAMPLES]?;
-    bytes_of(&samples, &mut bytes);
-    take_turns(rt, &samples, &mut to, &bytes)
+    let mut to = vec![in rt.alloc(); 0_u8; BYTES]?;
+    take_turns(rt, &bytes, &mut to)
 }
 
 fn report<R: Host>(rt: &R, times: Times) -> io::Result<()> {
