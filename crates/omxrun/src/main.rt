@@ -17,7 +17,6 @@ mod text;
 mod texts;
 mod trace;
 mod words;
-mod workers;
 
 use outside_host::{HostMedia, HostSink};
 use program::run_program;

@@ -22,8 +22,6 @@ pub fn make_files<M: Media>(
     ensures goes_on { GoesOn (M.outside media.old) (M.outside media.new) }
     ensures outcome { IsMakeOutcome seed frames folder.now (M.outside media.old) (M.outside media.new) result }
 {
-    match make(alloc, seed, frames, folder, media) {
-        Ok(()) => Ok(Done::Made { frames }),
-        Err(fault) => Err(fault),
-    }
+    make(alloc, seed, frames, folder, media)?;
+    Ok(Done::Made { frames })
 }

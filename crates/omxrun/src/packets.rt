@@ -34,13 +34,9 @@ pub fn pack_file<M: Media>(
     ensures outcome { IsTurnOutcome PacksTo StoppedPacking input.now output.now (M.outside media.old) (M.outside media.new) result }
 {
     one_answer();
-    match open_both(alloc, media, input, output) {
-        Ok(mut opened) => {
-            let packed = pack(&mut opened.input, &mut opened.output);
-            close_both(media, opened, packed_outcome(packed))
-        }
-        Err(fault) => Err(fault),
-    }
+    let mut opened = open_both(alloc, media, input, output)?;
+    let packed = pack(&mut opened.input, &mut opened.output);
+    close_both(media, opened, packed_outcome(packed))
 }
 
 /// Unpacks a file of RTP packets into a WAV file.
@@ -53,13 +49,9 @@ pub fn unpack_file<M: Media>(
     ensures goes_on { GoesOn (M.outside media.old) (M.outside media.new) }
     ensures outcome { IsTurnOutcome UnpacksTo StoppedUnpacking input.now output.now (M.outside media.old) (M.outside media.new) result }
 {
-    match open_both(alloc, media, input, output) {
-        Ok(mut opened) => {
-            let unpacked = unpack(alloc, &mut opened.input, &mut opened.output);
-            close_both(media, opened, unpacked_outcome(unpacked))
-        }
-        Err(fault) => Err(fault),
-    }
+    let mut opened = open_both(alloc, media, input, output)?;
+    let unpacked = unpack(alloc, &mut opened.input, &mut opened.output);
+    close_both(media, opened, unpacked_outcome(unpacked))
 }
 
 /// Opens the input, and then the output.

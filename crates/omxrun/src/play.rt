@@ -12,7 +12,6 @@ use crate::print::{print, report};
 use crate::script::SCRIPT_BYTES;
 use crate::summary::text_of_play;
 use crate::trace::{refused_fault, unread_fault};
-use crate::workers::play_workers;
 use omx_types::{Fault, Status};
 use outside_io::{Media, Sink, read_whole};
 use play_course::{Summary, parts_of, play_script};
@@ -23,6 +22,7 @@ use script_lang::{Script, read_script};
 use std::alloc::Global;
 use std::sync::Wait;
 use std::thread::Threads;
+use worker_course::play_workers;
 
 /// Plays the script in the file of that name with a worker for each gate, and prints what is told of its sinks, or the line of a fault.
 pub fn play_file<R: Threads + Wait + Sync, M: Media, O: Sink>(
@@ -119,8 +119,6 @@ fn play_by<R: Threads + Wait + Sync, M: Media>(
     if gates.is_empty() {
         return play_script(alloc, script, media, log, &mut OneThread);
     }
-    match play_workers(rt, alloc, script, media, log, gates) {
-        Ok((summary, _gates)) => Ok(summary),
-        Err(fault) => Err(fault),
-    }
+    let (summary, _gates) = play_workers(rt, alloc, script, media, log, gates)?;
+    Ok(summary)
 }

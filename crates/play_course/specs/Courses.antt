@@ -16,6 +16,10 @@ use Rattle.play_course.specs.Running.{AreSameFiles, IsRunCause}
 use Rattle.play_course.specs.Settling.{settled}
 use Rattle.play_course.specs.Sums.{planned_summary}
 
+-- what a player without gates tells of a log
+abbrev pub TellsNothing : List PartLine → List ℕ → Type 0
+TellsNothing parts text = Unit {0}
+
 -- A run of the plan with these files by so many workers came to that. `Tells` is what the player tells of a log, by its components.
 pub record HasRun (workers : ℕ) (Tells : List PartLine → List ℕ → Type 0) (plan : PlanValue) (before after : List (Option FileSeen)) (ran : Result Ran RunFault) : Type 0 where
   pub same : AreSameFiles before after

@@ -18,6 +18,12 @@ use Rattle.play_course.specs.declared.player.RunFault.{RunFault}
 use Rattle.play_course.specs.declared.player.RunFault.TheVariants as runs
 use Rattle.play_course.specs.Running.{HasTaken, IsSourceAt}
 
+-- what a fault of a step of the component at the place is for the run
+abbrev pub fault_at : ℕ → PartFault → RunFault
+fault_at place parts.Read = runs.Read
+fault_at place parts.Write = runs.Write
+fault_at place (parts.Short at size) = runs.Short place at size
+
 -- a work of the component at the place comes back with this fault
 abbrev pub IsFailureOf : Act → ℕ → PartFault → Type 0
 IsFailureOf (acts.Finish done) place fault = (done.component ≡ place) × (done.fault ≡ Some fault)

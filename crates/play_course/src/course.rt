@@ -1,11 +1,11 @@
 //! The whole course of a play.
 
-ghost use Rattle.std.specs.Prelude.{◌≡◌, ℕ, List, IfErr, IfOk, IsTrue, OnOk};
+ghost use Rattle.std.specs.Prelude.{ℕ, List, IfErr, IfOk, OnOk};
 ghost use Rattle.outside_io.specs.Files.{AbsencesStand, CountsStand, GoesOn};
 ghost use Rattle.script_lang.specs.PlayScripts.{IsPlayScript};
 ghost use Rattle.play_files.specs.Seen.{file_seen, files_seen};
-ghost use Rattle.play_course.specs.Courses.{HasClosed, HasEnded, HasRun};
-ghost use Rattle.play_course.specs.Outcomes.{HoldsTold, IsDone, IsUndone};
+ghost use Rattle.play_course.specs.Courses.{HasClosed, HasEnded, HasRun, TellsNothing};
+ghost use Rattle.play_course.specs.Outcomes.{IsDone, IsUndone};
 ghost use Rattle.play_course.specs.Players.{CanPlay};
 ghost use Rattle.play_course.specs.Settling.{parts_of};
 
@@ -29,17 +29,12 @@ fn run<S: Source, K: Sink, P: Player<S, K>>(
     player: &mut P,
 ) -> Result<Ran, RunFault>
     requires ready { CanPlay plan (files_seen (file_seen S.Source K.Sink) files.old) }
-    ensures { HasRun (P.workers player.old) (P.tells player.old player.new) plan (files_seen (file_seen S.Source K.Sink) files.old)
+    ensures { HasRun 0 TellsNothing plan (files_seen (file_seen S.Source K.Sink) files.old)
         (files_seen (file_seen S.Source K.Sink) files.new) result }
 {
-    let summary = match summary_of(alloc, &plan) {
-        Ok(summary) => summary,
-        Err(_) => return Err(RunFault::OutOfMemory),
-    };
-    match player.run(alloc, plan, files) {
-        Ok(text) => Ok(Ran { text, summary }),
-        Err(fault) => Err(fault),
-    }
+    let summary = summary_of(alloc, &plan)?;
+    let text = player.run(alloc, plan, files)?;
+    Ok(Ran { text, summary })
 }
 
 /// Closes the files of a play that was run. What the run comes to is told by how often reads and writes failed since it began, and by how the
@@ -69,7 +64,7 @@ fn run_and_close<M: Media, P: Player<M::Src, M::Snk>>(
     player: &mut P,
 ) -> Result<Ran, Fault>
     requires ready { CanPlay opened.plan (files_seen (file_seen M.Src.Source M.Snk.Sink) opened.files.items) }
-    ensures { HasEnded (P.workers player.old) (P.tells player.old player.new) opened.plan parts.now (files_seen (file_seen M.Src.Source M.Snk.Sink) opened.files.items) (M.outside media.old) (M.outside media.new) result }
+    ensures { HasEnded 0 TellsNothing opened.plan parts.now (files_seen (file_seen M.Src.Source M.Snk.Sink) opened.files.items) (M.outside media.old) (M.outside media.new) result }
 {
     let Opened { plan, mut files } = opened;
     let ran = run(alloc, plan, files.as_mut_slice(), player);
@@ -87,27 +82,14 @@ pub fn play_script<M: Media, P: Player<M::Src, M::Snk>>(
 ) -> Result<Summary, Fault>
     requires script { (name : List ℕ) × (text : List ℕ) × IsPlayScript name log.now text script.now }
     ensures goes_on { GoesOn (M.outside media.old) (M.outside media.new) }
-    ensures done { IfOk result (IsDone (P.workers player.old) script.now log.now (M.outside media.old) (M.outside media.new)) }
-    ensures told { OnOk result (IsTrue (M.outside media.old).tells
-        → HoldsTold (P.tells player.old player.new (parts_of script.now)) log.now (M.outside media.new)) }
+    ensures done { IfOk result (IsDone 0 script.now log.now (M.outside media.old) (M.outside media.new)) }
     ensures stand { OnOk result (CountsStand (M.outside media.old) (M.outside media.new)) }
     ensures absences { OnOk result (AbsencesStand (M.outside media.old) (M.outside media.new)) }
-    ensures undone { IfErr result (IsUndone (P.workers player.old) script.now log.now (M.outside media.old) (M.outside media.new)) }
+    ensures undone { IfErr result (IsUndone 0 script.now log.now (M.outside media.old) (M.outside media.new)) }
 {
-    let opened = match open_files(alloc, media, script) {
-        Ok(opened) => opened,
-        Err(fault) => return Err(fault),
-    };
-    let Ran { text, summary } = match run_and_close(
-        alloc,
-        media,
-        parts_of(script),
-        opened,
-        player,
-    ) {
-        Ok(ran) => ran,
-        Err(fault) => return Err(fault),
-    };
+    let opened = open_files(alloc, media, script)?;
+    let ran = run_and_close(alloc, media, parts_of(script), opened, player)?;
+    let Ran { text, summary } = ran;
     match write_log(alloc, media, log, &text) {
         Ok(()) => Ok(summary),
         Err(refused) => Err(log_fault(refused)),

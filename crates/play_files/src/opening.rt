@@ -44,10 +44,7 @@ fn open_planned<M: Media>(
     ensures whole { OnOk result (HasOpenedAll (file_seen M.Src.Source M.Snk.Sink) (M.outside media.old) (M.outside media.new) plan.old plan.new heads.new.items files.new.items) }
     ensures stopped { IfErr result (HasStopped (file_seen M.Src.Source M.Snk.Sink) (M.outside media.old) (M.outside media.new) plan.old plan.new heads.new.items files.new.items) }
 {
-    match open_sources(alloc, media, plan.parts(), heads, files) {
-        Ok(()) => {}
-        Err(fault) => return Err(fault),
-    }
+    open_sources(alloc, media, plan.parts(), heads, files)?;
     match plan.fit(heads.as_slice()) {
         Ok(()) => {}
         Err(fault) => return Err(plan_fault(fault)),

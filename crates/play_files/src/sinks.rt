@@ -72,17 +72,15 @@ pub(crate) fn open_sinks<M: Media>(
     for place in 0..parts.len() {
         let part = &parts[place];
         if let Some(name) = written_name(&part.form) {
-            match open_sink(alloc, media, name, part.line) {
-                Ok(snk) => put(
-                    files,
-                    place,
-                    PartFile::To {
-                        snk,
-                        frames: planned[place],
-                    },
-                ),
-                Err(fault) => return Err(fault),
-            }
+            let snk = open_sink(alloc, media, name, part.line)?;
+            put(
+                files,
+                place,
+                PartFile::To {
+                    snk,
+                    frames: planned[place],
+                },
+            );
         }
     }
     Ok(())

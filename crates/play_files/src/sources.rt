@@ -87,25 +87,23 @@ pub(crate) fn open_sources<M: Media>(
     for part in parts {
         match read_name(&part.form) {
             None => put_last(files, None),
-            Some(name) => match open_source(alloc, media, name, part.line) {
-                Ok((src, head)) => {
-                    let WavHead {
+            Some(name) => {
+                let (src, head) = open_source(alloc, media, name, part.line)?;
+                let WavHead {
+                    format,
+                    start: _,
+                    frames,
+                } = head;
+                put_last(
+                    files,
+                    Some(PartFile::From {
+                        src,
                         format,
-                        start: _,
                         frames,
-                    } = head;
-                    put_last(
-                        files,
-                        Some(PartFile::From {
-                            src,
-                            format,
-                            frames,
-                        }),
-                    );
-                    put_last(heads, head);
-                }
-                Err(fault) => return Err(fault),
-            },
+                    }),
+                );
+                put_last(heads, head);
+            }
         }
     }
     Ok(())

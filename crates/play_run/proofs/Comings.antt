@@ -19,13 +19,12 @@ use Rattle.play_result_laws.specs.Worlds.{IsOpening}
 use Rattle.play_files.specs.Seen.{FileSeen, sink_seen, source_seen}
 use Rattle.play_graph.specs.Ending.{AreFilesOf as AreGraphFiles}
 use Rattle.play_graph.specs.Making.{AreOffered}
-use Rattle.play_course.specs.Failing.{ShowsAt}
+use Rattle.play_course.specs.Failing.{ShowsAt, fault_at}
 use Rattle.play_course.specs.Running.{AreSameFiles, HasTaken, IsRunCause, IsSameFile}
 use Rattle.play_result_laws.proofs.Opened.{opening_known}
 use Rattle.play_run.specs.declared.failure.Failure.{Failure}
 use Rattle.play_run.specs.Playing.{PlayingValue, ToldAlike, unfailed}
 use Rattle.play_run.specs.Turning.{FileShows, FilesStayed}
-use Rattle.play_run.specs.Faults.{fault_at}
 use Rattle.play_run.proofs.ThreadFiles.{StaysBy, same_file, seen_all, seen_at, seen_by, unseen}
 use Rattle.play_run.proofs.Sinks.{sink_entry, sink_offer, sink_stays}
 

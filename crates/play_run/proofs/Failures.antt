@@ -13,9 +13,8 @@ use Rattle.il_machine.specs.Stepping.{WorkDone}
 use Rattle.il_machine.specs.World.{World}
 use Rattle.history_laws.proofs.Joining.{run_joined}
 use Rattle.play_log.specs.Entries.{Entry, steps_of}
-use Rattle.play_course.specs.Failing.{HasFailure, IsShortBehind, TellsFirst}
+use Rattle.play_course.specs.Failing.{HasFailure, IsShortBehind, TellsFirst, fault_at}
 use Rattle.play_course.proofs.Failing.{unfailed}
-use Rattle.play_run.specs.Faults.{fault_at}
 use Rattle.play_run.specs.Recording.{HasNotFailed}
 
 -- among whole entries none failed

@@ -24,7 +24,7 @@ use Rattle.play_graph.specs.Graphs.{kept_of}
 use Rattle.play_graph.specs.Making.{AreGone, AreOffered}
 use Rattle.play_course.specs.declared.player.RunFault.{RunFault}
 use Rattle.play_course.specs.declared.player.RunFault.TheVariants as runs
-use Rattle.play_course.specs.Failing.{LeavesBehind}
+use Rattle.play_course.specs.Failing.{LeavesBehind, fault_at}
 use Rattle.play_course.specs.Players.{AreFilesOf, CanPlay, IsFailed, IsPlayedWhole}
 use Rattle.play_course.specs.Running.{AreSameFiles, IsRunCause}
 use Rattle.play_run.specs.declared.failure.Stop.{Stop}
@@ -33,7 +33,7 @@ use Rattle.play_run.specs.Closing.{HasPlayedWith, KeepsLog}
 use Rattle.play_run.specs.Logging.{IsKeptTo, IsNamedTo}
 use Rattle.play_run.specs.Playing.{PlayingValue}
 use Rattle.play_run.specs.Turning.{FilesStayed, HasBrokenOff, HasBrokenOffWith, StopShows}
-use Rattle.play_run.specs.Faults.{fault_at, fault_of}
+use Rattle.play_run.specs.Faults.{fault_of}
 use Rattle.play_run.proofs.Comings.{are_same, does_show, is_cause, seen, seen_file}
 use Rattle.play_run.proofs.ThreadFiles.{are_offered, seen_at}
 use Rattle.play_run.proofs.Runs.{failed_left, is_broken_off, is_failed, is_front, is_whole, standing_left}

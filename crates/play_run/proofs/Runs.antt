@@ -30,7 +30,7 @@ use Rattle.play_graph.specs.Ending.{AreFilesOf as AreGraphFiles}
 use Rattle.play_graph.specs.Graphs.{kept_of}
 use Rattle.play_graph.specs.Making.{AreOffered}
 use Rattle.play_course.specs.declared.player.RunFault.TheVariants as runs
-use Rattle.play_course.specs.Failing.{LeavesWorld, ShowsAt}
+use Rattle.play_course.specs.Failing.{LeavesWorld, ShowsAt, fault_at}
 use Rattle.play_course.specs.Players.{IsFailed, IsPlayedWhole}
 use Rattle.play_course.specs.Running.{HasTaken}
 use Rattle.play_result_laws.specs.Contents.{contents_of, streams_of}
@@ -41,7 +41,6 @@ use Rattle.play_run.specs.declared.failure.Failure.{Failure}
 use Rattle.play_run.specs.Logging.{IsNamedTo}
 use Rattle.play_run.specs.Playing.{HaveNoWork, IsPlaying, PlayingValue, cast, layout_of}
 use Rattle.play_run.specs.Turning.{FilesStayed, HasFailed}
-use Rattle.play_run.specs.Faults.{fault_at}
 use Rattle.play_run.proofs.Comings.{has_taken, seen}
 use Rattle.play_run.proofs.Failures.{none_whole, tells_only}
 

@@ -12,8 +12,7 @@ use Rattle.graph_acts.specs.Plain.{Sight, Unsaid, plain_act}
 use Rattle.board.specs.Asking.{ArePlain}
 use Rattle.play_worker.specs.declared.failure.Failure.{Failure}
 use Rattle.play_worker.specs.Failing.{HasFailed, TellsWorst, failed_by, failure_in, is_fault_first}
-use Rattle.play_course.specs.Failing.{HasFailure, IsFailureOf, IsShortBehind, TellsFirst}
-use Rattle.play_run.specs.Faults.{fault_at}
+use Rattle.play_course.specs.Failing.{HasFailure, IsFailureOf, IsShortBehind, TellsFirst, fault_at}
 
 -- ---- one step
 

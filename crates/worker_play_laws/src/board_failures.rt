@@ -15,8 +15,7 @@ ghost use Rattle.work_signs.specs.declared.seat.Seat.{Seat};
 ghost use Rattle.pass_book.specs.Seats.{IsOfPlay};
 ghost use Rattle.play_worker.specs.declared.failure.Failure.{Failure};
 ghost use Rattle.play_worker.specs.Failing.{HasFailed, TellsWorst};
-ghost use Rattle.play_course.specs.Failing.{HasFailure, TellsFirst};
-ghost use Rattle.play_run.specs.Faults.{fault_at};
+ghost use Rattle.play_course.specs.Failing.{HasFailure, TellsFirst, fault_at};
 
 use conductor::PlayClient;
 use note_queues::Client;

@@ -1,4 +1,5 @@
 use Rattle.std.proofs.Common.{◌≡◌, ℕ, List, inl, inr, refl, ap, subst, sym, ◌∙◌}
+use Rattle.std.proofs.lemmas.Result.{err_from_is_err_and}
 use Rattle.omx_types.specs.declared.fault.Fault.{Fault}
 use Rattle.script_lang.specs.PlayScripts.{IsPlayScript}
 use Rattle.script_lang.specs.declared.play_line.PartLine.{PartLine}
@@ -8,11 +9,12 @@ use Rattle.play_forms.specs.Plans.{IsPlanOfScript, PlanValue}
 use Rattle.play_files.specs.Names.{HaveOwnFiles}
 use Rattle.play_files.specs.Seen.{file_seen, files_seen}
 use Rattle.play_files.proofs.OwnFiles.{own_files}
-use Rattle.play_course.specs.Courses.{HasEnded}
+use Rattle.play_course.specs.Courses.{HasEnded, TellsNothing}
 use Rattle.outside_io.specs.declared.media.Refused.TheVariants as Refusals
-use Rattle.play_course.specs.Outcomes.{HoldsTold, IsUndone}
+use Rattle.play_course.specs.Outcomes.{IsUndone}
 use Rattle.play_course.specs.Settling.{fault_of_log, parts_of}
-use Rattle.play_course.proofs.Ends.{absent_none, broken, done, gates_tell, goes, log_calm, log_told, log_why, stand, stays, unlogged, unmade_by}
+use Rattle.play_course.proofs.Ends.{absent_none, broken, done, goes, log_calm, log_told, log_why, stand, stays, unlogged, unmade_by}
+use Rattle.play_course.proofs.Ways.{can_play}
 use Rattle.play_course.proofs.course.play_script.Goals as goal
 
 its_parts : (script : Script) (planned : PlanValue) (parts : List PartLine) → IsPlanOfScript script planned → parts ≡ planned.parts → parts_of script ≡ parts
@@ -22,93 +24,81 @@ its_parts (Trace units lines) planned parts is e = absurd is
 its_names : (name log text : List ℕ) (script : Script) (planned : PlanValue) (parts : List PartLine) → IsPlayScript name log text script → IsPlanOfScript script planned → parts ≡ planned.parts → HaveOwnFiles name log parts
 its_names name log text script planned parts S P e = subst (HaveOwnFiles name log) (sym e) (own_files name log text script planned S P)
 
-pub returns-in-Err-run_and_close-clause-undone : goal.returns-in-Err-run_and_close-clause-undone
-returns-in-Err-run_and_close-clause-undone g c =
-    let seen = file_seen g.M.Src.Source g.M.Snk.Sink in
-    let script = c.args.script.now in
-    let log = c.args.log.now in
-    let old = g.M.Media.outside c.args.media.now in
-    let mid = g.M.Media.outside c.open_files.new.media in
-    let new = g.M.Media.outside c.run_and_close.new.media in
-    let plan = c.in-Ok.opened.plan in
-    let files = c.in-Ok.opened.files.items in
+pub run_and_close-requires-clause-ready : goal.run_and_close-requires-clause-ready
+run_and_close-requires-clause-ready g c = λ κs within.
     let R = c.requires.script in
-    let O = c.in-Ok.ensures.opened in
-    let own : HaveOwnFiles R.0 log plan.parts = its_names R.0 log R.1 script O.planned plan.parts R.2 O.is_plan (O.fitted).parts in
-    let H = subst (λ (ps : List PartLine). HasEnded (g.P.Player.workers c.args.player.now) (g.P.Player.tells c.args.player.now c.run_and_close.new.player) plan ps (files_seen seen files) mid new c.run_and_close.result) (c.parts_of.ensures ∙ its_parts script O.planned plan.parts O.is_plan (O.fitted).parts) c.run_and_close.ensures in
-    inr (inl (broken seen script R.0 log old mid new plan files O own c.run_and_close.result H c.in-Err-run_and_close.fault c.in-Err-run_and_close.is))
+    let O = c.in_ok-opened.ensures.opened in
+    can_play (file_seen g.M.Src.Source g.M.Snk.Sink) c.args.script.now R.0 c.args.log.now (g.M.Media.outside c.args.media.now) (g.M.Media.outside c.open_files.new.media) c.in_ok-opened.opened.plan c.in_ok-opened.opened.files.items O
+    (its_names R.0 c.args.log.now R.1 c.args.script.now O.planned c.in_ok-opened.opened.plan.parts R.2 O.is_plan (O.fitted).parts)
 
-pub returns-in-Ok-write_log-clause-done : goal.returns-in-Ok-write_log-clause-done
-returns-in-Ok-write_log-clause-done g c =
+pub returns-in_err-ran-clause-undone : goal.returns-in_err-ran-clause-undone
+returns-in_err-ran-clause-undone g c =
     let seen = file_seen g.M.Src.Source g.M.Snk.Sink in
     let script = c.args.script.now in
     let log = c.args.log.now in
     let old = g.M.Media.outside c.args.media.now in
     let mid = g.M.Media.outside c.open_files.new.media in
     let new = g.M.Media.outside c.run_and_close.new.media in
-    let plan = c.in-Ok.opened.plan in
-    let files = c.in-Ok.opened.files.items in
+    let plan = c.in_ok-opened.opened.plan in
+    let files = c.in_ok-opened.opened.files.items in
     let R = c.requires.script in
-    let O = c.in-Ok.ensures.opened in
+    let O = c.in_ok-opened.ensures.opened in
     let own : HaveOwnFiles R.0 log plan.parts = its_names R.0 log R.1 script O.planned plan.parts R.2 O.is_plan (O.fitted).parts in
-    let H = subst (λ (ps : List PartLine). HasEnded (g.P.Player.workers c.args.player.now) (g.P.Player.tells c.args.player.now c.run_and_close.new.player) plan ps (files_seen seen files) mid new c.run_and_close.result) (c.parts_of.ensures ∙ its_parts script O.planned plan.parts O.is_plan (O.fitted).parts) c.run_and_close.ensures in
+    let H = subst (λ (ps : List PartLine). HasEnded 0 TellsNothing plan ps (files_seen seen files) mid new c.run_and_close.result) (c.parts_of.ensures ∙ its_parts script O.planned plan.parts O.is_plan (O.fitted).parts) c.run_and_close.ensures in
+    let p = err_from_is_err_and c.from_residual-in_err-ran.result c.from_residual-in_err-ran.ensures.1 in
+    rw (p.1, p.2) (inr (inl (broken seen script R.0 log old mid new plan files O own c.run_and_close.result H c.in_err-ran.field-0.0 c.in_err-ran.was)))
+
+pub returns-in-Ok-clause-done : goal.returns-in-Ok-clause-done
+returns-in-Ok-clause-done g c =
+    let seen = file_seen g.M.Src.Source g.M.Snk.Sink in
+    let script = c.args.script.now in
+    let log = c.args.log.now in
+    let old = g.M.Media.outside c.args.media.now in
+    let mid = g.M.Media.outside c.open_files.new.media in
+    let new = g.M.Media.outside c.run_and_close.new.media in
+    let plan = c.in_ok-opened.opened.plan in
+    let files = c.in_ok-opened.opened.files.items in
+    let R = c.requires.script in
+    let O = c.in_ok-opened.ensures.opened in
+    let own : HaveOwnFiles R.0 log plan.parts = its_names R.0 log R.1 script O.planned plan.parts R.2 O.is_plan (O.fitted).parts in
+    let H = subst (λ (ps : List PartLine). HasEnded 0 TellsNothing plan ps (files_seen seen files) mid new c.run_and_close.result) (c.parts_of.ensures ∙ its_parts script O.planned plan.parts O.is_plan (O.fitted).parts) c.run_and_close.ensures in
     let on = goes seen script R.0 log old mid new plan files O own c.run_and_close.result H in
-    done seen script R.0 log old mid new plan files O own c.run_and_close.result H c.in-Ok-run_and_close.ran c.in-Ok-run_and_close.is (g.M.Media.outside c.write_log.new.media)
-    (c.in-Ok-write_log.ensures.asked (λ e. cc))
-    (λ tells. c.write_log.ensures.others (on.tells ∙ tells)) (λ tells. c.in-Ok-write_log.ensures.held (on.tells ∙ tells))
+    done seen script R.0 log old mid new plan files O own c.run_and_close.result H c.in_ok-ran.ran c.in_ok-ran.was (g.M.Media.outside c.write_log.new.media)
+    (c.in-Ok.ensures.asked (λ e. cc))
+    (λ tells. c.write_log.ensures.others (on.tells ∙ tells)) (λ tells. c.in-Ok.ensures.held (on.tells ∙ tells))
 
-pub returns-in-Ok-write_log-clause-told : goal.returns-in-Ok-write_log-clause-told
-returns-in-Ok-write_log-clause-told g c = λ tells.
+pub returns-in-Ok-clause-stand : goal.returns-in-Ok-clause-stand
+returns-in-Ok-clause-stand g c =
     let seen = file_seen g.M.Src.Source g.M.Snk.Sink in
     let script = c.args.script.now in
     let log = c.args.log.now in
     let old = g.M.Media.outside c.args.media.now in
     let mid = g.M.Media.outside c.open_files.new.media in
     let new = g.M.Media.outside c.run_and_close.new.media in
-    let plan = c.in-Ok.opened.plan in
-    let files = c.in-Ok.opened.files.items in
+    let plan = c.in_ok-opened.opened.plan in
+    let files = c.in_ok-opened.opened.files.items in
     let R = c.requires.script in
-    let O = c.in-Ok.ensures.opened in
+    let O = c.in_ok-opened.ensures.opened in
     let own : HaveOwnFiles R.0 log plan.parts = its_names R.0 log R.1 script O.planned plan.parts R.2 O.is_plan (O.fitted).parts in
-    let parts = its_parts script O.planned plan.parts O.is_plan (O.fitted).parts in
-    let H = subst (λ (ps : List PartLine). HasEnded (g.P.Player.workers c.args.player.now) (g.P.Player.tells c.args.player.now c.run_and_close.new.player) plan ps (files_seen seen files) mid new c.run_and_close.result) (c.parts_of.ensures ∙ parts) c.run_and_close.ensures in
-    let on = goes seen script R.0 log old mid new plan files O own c.run_and_close.result H in
-    let final = g.M.Media.outside c.write_log.new.media in
-    subst (λ (ps : List PartLine). HoldsTold (g.P.Player.tells c.args.player.now c.run_and_close.new.player ps) log final) (sym parts)
-    (gates_tell seen script R.0 log old mid new plan files O own c.run_and_close.result H c.in-Ok-run_and_close.ran c.in-Ok-run_and_close.is final (c.in-Ok-write_log.ensures.held (on.tells ∙ tells)))
+    let H = subst (λ (ps : List PartLine). HasEnded 0 TellsNothing plan ps (files_seen seen files) mid new c.run_and_close.result) (c.parts_of.ensures ∙ its_parts script O.planned plan.parts O.is_plan (O.fitted).parts) c.run_and_close.ensures in
+    let S = stand seen script R.0 log old mid new plan files O own c.run_and_close.result H c.in_ok-ran.ran c.in_ok-ran.was in
+    record { reads = c.write_log.ensures.read_faults ∙ S.reads; writes = c.in-Ok.ensures.write_stays (λ e. cc) ∙ S.writes }
 
-pub returns-in-Ok-write_log-clause-stand : goal.returns-in-Ok-write_log-clause-stand
-returns-in-Ok-write_log-clause-stand g c =
+pub returns-in-Ok-clause-absences : goal.returns-in-Ok-clause-absences
+returns-in-Ok-clause-absences g c =
     let seen = file_seen g.M.Src.Source g.M.Snk.Sink in
     let script = c.args.script.now in
     let log = c.args.log.now in
     let old = g.M.Media.outside c.args.media.now in
     let mid = g.M.Media.outside c.open_files.new.media in
     let new = g.M.Media.outside c.run_and_close.new.media in
-    let plan = c.in-Ok.opened.plan in
-    let files = c.in-Ok.opened.files.items in
+    let plan = c.in_ok-opened.opened.plan in
+    let files = c.in_ok-opened.opened.files.items in
     let R = c.requires.script in
-    let O = c.in-Ok.ensures.opened in
+    let O = c.in_ok-opened.ensures.opened in
     let own : HaveOwnFiles R.0 log plan.parts = its_names R.0 log R.1 script O.planned plan.parts R.2 O.is_plan (O.fitted).parts in
-    let H = subst (λ (ps : List PartLine). HasEnded (g.P.Player.workers c.args.player.now) (g.P.Player.tells c.args.player.now c.run_and_close.new.player) plan ps (files_seen seen files) mid new c.run_and_close.result) (c.parts_of.ensures ∙ its_parts script O.planned plan.parts O.is_plan (O.fitted).parts) c.run_and_close.ensures in
-    let S = stand seen script R.0 log old mid new plan files O own c.run_and_close.result H c.in-Ok-run_and_close.ran c.in-Ok-run_and_close.is in
-    record { reads = c.write_log.ensures.read_faults ∙ S.reads; writes = c.in-Ok-write_log.ensures.write_stays (λ e. cc) ∙ S.writes }
-
-pub returns-in-Ok-write_log-clause-absences : goal.returns-in-Ok-write_log-clause-absences
-returns-in-Ok-write_log-clause-absences g c =
-    let seen = file_seen g.M.Src.Source g.M.Snk.Sink in
-    let script = c.args.script.now in
-    let log = c.args.log.now in
-    let old = g.M.Media.outside c.args.media.now in
-    let mid = g.M.Media.outside c.open_files.new.media in
-    let new = g.M.Media.outside c.run_and_close.new.media in
-    let plan = c.in-Ok.opened.plan in
-    let files = c.in-Ok.opened.files.items in
-    let R = c.requires.script in
-    let O = c.in-Ok.ensures.opened in
-    let own : HaveOwnFiles R.0 log plan.parts = its_names R.0 log R.1 script O.planned plan.parts R.2 O.is_plan (O.fitted).parts in
-    let H = subst (λ (ps : List PartLine). HasEnded (g.P.Player.workers c.args.player.now) (g.P.Player.tells c.args.player.now c.run_and_close.new.player) plan ps (files_seen seen files) mid new c.run_and_close.result) (c.parts_of.ensures ∙ its_parts script O.planned plan.parts O.is_plan (O.fitted).parts) c.run_and_close.ensures in
-    c.in-Ok-write_log.ensures.absences_stay (λ e. cc) ∙ absent_none seen script R.0 log old mid new plan files O own c.run_and_close.result H
+    let H = subst (λ (ps : List PartLine). HasEnded 0 TellsNothing plan ps (files_seen seen files) mid new c.run_and_close.result) (c.parts_of.ensures ∙ its_parts script O.planned plan.parts O.is_plan (O.fitted).parts) c.run_and_close.ensures in
+    c.in-Ok.ensures.absences_stay (λ e. cc) ∙ absent_none seen script R.0 log old mid new plan files O own c.run_and_close.result H
 
 pub returns-clause-undone : goal.returns-clause-undone
 returns-clause-undone g c =
@@ -118,25 +108,25 @@ returns-clause-undone g c =
     let old = g.M.Media.outside c.args.media.now in
     let mid = g.M.Media.outside c.open_files.new.media in
     let new = g.M.Media.outside c.run_and_close.new.media in
-    let plan = c.in-Ok.opened.plan in
-    let files = c.in-Ok.opened.files.items in
+    let plan = c.in_ok-opened.opened.plan in
+    let files = c.in_ok-opened.opened.files.items in
     let R = c.requires.script in
-    let O = c.in-Ok.ensures.opened in
+    let O = c.in_ok-opened.ensures.opened in
     let own : HaveOwnFiles R.0 log plan.parts = its_names R.0 log R.1 script O.planned plan.parts R.2 O.is_plan (O.fitted).parts in
-    let H = subst (λ (ps : List PartLine). HasEnded (g.P.Player.workers c.args.player.now) (g.P.Player.tells c.args.player.now c.run_and_close.new.player) plan ps (files_seen seen files) mid new c.run_and_close.result) (c.parts_of.ensures ∙ its_parts script O.planned plan.parts O.is_plan (O.fitted).parts) c.run_and_close.ensures in
+    let H = subst (λ (ps : List PartLine). HasEnded 0 TellsNothing plan ps (files_seen seen files) mid new c.run_and_close.result) (c.parts_of.ensures ∙ its_parts script O.planned plan.parts O.is_plan (O.fitted).parts) c.run_and_close.ensures in
     let final = g.M.Media.outside c.write_log.new.media in
     let on = goes seen script R.0 log old mid new plan files O own c.run_and_close.result H in
-    let S = stand seen script R.0 log old mid new plan files O own c.run_and_close.result H c.in-Ok-run_and_close.ran c.in-Ok-run_and_close.is in
-    let refused = c.in-Err-write_log.refused in
-    let e = c.in-Err-write_log.ensures in
-    subst (λ (fault : Fault). IsUndone (g.P.Player.workers c.args.player.now) script log old final fault) (sym c.log_fault.ensures)
-    (inr (inr (unlogged seen script R.0 log old mid new plan files O own c.run_and_close.result H c.in-Ok-run_and_close.ran c.in-Ok-run_and_close.is final _
+    let S = stand seen script R.0 log old mid new plan files O own c.run_and_close.result H c.in_ok-ran.ran c.in_ok-ran.was in
+    let refused = c.in-Err.refused in
+    let e = c.in-Err.ensures in
+    subst (λ (fault : Fault). IsUndone 0 script log old final fault) (sym c.log_fault.ensures)
+    (inr (inr (unlogged seen script R.0 log old mid new plan files O own c.run_and_close.result H c.in_ok-ran.ran c.in_ok-ran.was final _
     c.write_log.ensures.goes_on
-    (log_why log c.in-Ok-run_and_close.ran.text new new final refused (stays new) (record { reads = refl; writes = refl }) e.reason e.read_faults (λ n. e.write_stays (λ same. n (cc))))
+    (log_why log c.in_ok-ran.ran.text new new final refused (stays new) (record { reads = refl; writes = refl }) e.reason e.read_faults (λ n. e.write_stays (λ same. n (cc))))
     (log_calm old new final refused S e.read_faults (λ n. e.write_stays (λ same. n (cc))))
     (λ tells. c.write_log.ensures.others (on.tells ∙ tells))
     (λ tells. e.front (on.tells ∙ tells))
-    (log_why log c.in-Ok-run_and_close.ran.text old new final refused on S e.reason e.read_faults (λ n. e.write_stays (λ same. n (cc))))
+    (log_why log c.in_ok-ran.ran.text old new final refused on S e.reason e.read_faults (λ n. e.write_stays (λ same. n (cc))))
     (unmade_by log new final refused e.reason)
     (log_told old new final refused (absent_none seen script R.0 log old mid new plan files O own c.run_and_close.result H) (λ n. e.absences_stay (λ same. n (cc))))
     (λ n. e.asked (λ same. (let is : refused ≡ Refusals.OutOfMemory = cc in n (ap fault_of_log is))))

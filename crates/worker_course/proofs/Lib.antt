@@ -1,0 +1,9 @@
+pub mod Premises
+pub mod Placed
+pub mod Opened
+pub mod Kept
+pub mod Begun
+pub mod Led
+pub mod Broken
+pub mod OwnNames
+pub mod Ran

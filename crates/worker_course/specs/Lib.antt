@@ -1,0 +1,5 @@
+pub mod Answers
+pub mod Reasons
+pub mod Seated
+pub mod Sights
+pub mod Runs
