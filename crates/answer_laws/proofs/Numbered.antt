@@ -177,7 +177,7 @@ effect_numbered w _ _ = refl
 third_passed : {E : Type 0} (a b c : Bool) (x y z : E) → first_of_these ((a, x) ∷ (b, y) ∷ (c, z) ∷ []) ≡ None → c ≡ false
 third_passed a b c x y z e = (passed c z None (passed b y _ (passed a x _ e).1).1).0
 
-not_last : (w : World) (name : List ℕ) → get_handle_refusal (look w) name ≡ None → w.numbered ≢ 2 ^ 64 - 1
+pub not_last : (w : World) (name : List ℕ) → get_handle_refusal (look w) name ≡ None → w.numbered ≢ 2 ^ 64 - 1
 not_last w name none =
     let full = third_passed (is_bad_name name) (is_none (kind_of name)) (is_full (look w)) errors.InvalidComponentName errors.ComponentNotFound errors.InsufficientResources none in
     let other = (not_either (nat_le 32 (length w.components)) (nat_eq w.numbered 18446744073709551615) full).1 in

@@ -1,3 +1,4 @@
+mod AlikeLines
 mod Asked
 mod Backs
 mod Claims
@@ -16,8 +17,10 @@ mod Invalidating
 mod KindNames
 mod Lasting
 mod Made
+mod MovedNames
 mod Naming
 mod Numbered
+mod OneTrace
 mod Replying
 mod Reseated
 mod Seats

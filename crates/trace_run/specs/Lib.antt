@@ -3,6 +3,7 @@ pub mod Asking
 pub mod Replying
 pub mod Lines
 pub mod Traced
+pub mod OneTrace
 pub mod Standing
 pub mod InHand
 pub mod Writing

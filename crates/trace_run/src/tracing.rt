@@ -7,6 +7,7 @@ ghost use Rattle.outside_io.specs.Writings.{WritesUntil};
 ghost use Rattle.script_lang.specs.Scripts.{IsOfCommand};
 ghost use Rattle.script_lang.specs.declared.script.Script.TheVariants.{Trace};
 ghost use Rattle.trace_run.specs.Traced.{GotTrace, IsStopped};
+ghost use Rattle.trace_run.specs.OneTrace.{HasOneText};
 ghost use Rattle.trace_run.specs.Desks.{on_desk};
 ghost use Rattle.trace_run.specs.Works.{HasDeskMoment};
 ghost use Rattle.trace_run.specs.Writing.{GotBody, IsBroken, FromEach};
@@ -20,7 +21,7 @@ use script_lang::{Script, TraceLine};
 use std::alloc::Global;
 
 /// Runs a trace script, and writes each line with its answer, and then `end`. Before that everything is given back by acts that
-/// aren't printed, so that the graph is closed with no header at the client and no client object out.
+/// aren't printed, so that the graph is closed with no header at the client and no client object out. A script has one text.
 pub fn trace<O: Sink>(alloc: Global, script: &Script, out: &mut O) -> Result<(), Fault>
     requires { IsOfCommand false script.now }
     ensures traced { OnOk result (GotTrace script.now (O.told out.old) (O.told out.new)) }
@@ -28,6 +29,7 @@ pub fn trace<O: Sink>(alloc: Global, script: &Script, out: &mut O) -> Result<(),
     ensures stays { result ≢ Err WriteFault → O.faults out.new ≡ O.faults out.old }
     ensures keeps_sink { KeepsSink O.Sink out.old out.new }
     ensures writing { WritesUntil WriteFault (O.writing out.old) (O.writing out.new) result }
+    ensures one { HasOneText script.now }
 {
     match script {
         Script::Trace { units, lines } => trace_lines(alloc, *units, lines.as_slice(), out),

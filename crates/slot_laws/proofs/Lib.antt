@@ -1,0 +1,17 @@
+pub mod Lists
+pub mod Ports
+pub mod Headers
+pub mod Closings
+pub mod Naming
+pub mod Rooms
+pub mod Calling
+pub mod Flowing
+pub mod Handing
+pub mod Telling
+pub mod Granting
+pub mod Claiming
+pub mod Finishing
+pub mod Steps
+pub mod Alike
+pub mod Done
+pub mod Growth
