@@ -1,4 +1,4 @@
 mod Refusals
-mod Writing
+pub mod Writing
 mod Ready
 mod Closed

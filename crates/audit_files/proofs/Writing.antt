@@ -1,15 +1,17 @@
 -- The files of the sinks are opened one after another.
-use Rattle.std.proofs.Common.{◌≡◌, ℕ, ◌+◌, ◌<◌, ◌≤◌, List, length, length-set, slice_get, slice_set, Option, Some, None, inl, inr, refl, sym, ◌∙◌, ap, subst, arith}
+use Rattle.std.proofs.Common.{◌≡◌, ℕ, ◌+◌, ◌<◌, ◌≤◌, List, length, length-set, slice_get, slice_set, Option, Some, None, IsSome, IsTrue, inl, inr, refl, sym, ◌∙◌, ap, subst, arith}
 use Rattle.std.specs.List.{slice_index_or}
 use Rattle.std.proofs.lemmas.Bool.{cases_lt}
 use Rattle.outside_io.specs.declared.source.Source.{Ghosts as SourceGhosts}
 use Rattle.outside_io.specs.Files.{Outside}
 use Rattle.audio_parts.specs.declared.part_file.PartFile.{PartFile}
+use Rattle.audio_parts.specs.declared.part_file.PartFile.TheVariants as files
 use Rattle.script_lang.specs.declared.play_line.PartLine.{PartLine}
 use Rattle.stream_plan.proofs.Lists.{set_at, set_other}
 use Rattle.play_result_laws.specs.Files.{written_by}
 use Rattle.compared_files.specs.Comparing.{ComparingValue}
 use Rattle.audit_files.specs.Compared.{HaveCompared, IsComparedBy}
+use Rattle.audit_files.specs.Left.{AreSinksThere}
 
 module _ {S : Type 0} (g : SourceGhosts S) (old : Outside) (parts : List PartLine) (planned : List ℕ) where
   abbrev Entry : Type 0
@@ -17,6 +19,17 @@ module _ {S : Type 0} (g : SourceGhosts S) (old : Outside) (parts : List PartLin
 
   pub none_compared : (entries : List Entry) → HaveCompared g old parts planned 0 entries entries
   none_compared entries = record { many = refl; sinks = λ place part name b e w. absurd (omega arith); others = λ place part e w. refl; rest = λ place b. refl }
+
+  -- a comparison's file is told
+  pub told_there : (frames : ℕ) (name : List ℕ) (file : Entry) → IsComparedBy g old frames name file → IsTrue old.tells → IsSome (old.file name)
+  told_there frames name (Some (files.To snk count)) I tells = (I.2).there tells
+  told_there frames name (Some (files.From src format count)) I tells = absurd I
+  told_there frames name None I tells = absurd I
+
+  pub sinks_there : (count : ℕ) (before after : List Entry) → HaveCompared g old parts planned count before after → AreSinksThere old parts count
+  sinks_there count before after H tells place name b (part, e, w) =
+      let h = H.sinks place part name b e w in
+      told_there (slice_index_or planned place 0) name h.0 h.2 tells
 
   module _ (count : ℕ) (before after : List Entry) (H : HaveCompared g old parts planned count before after) (part : PartLine) (there : slice_get parts count ≡ Some part) where
     at_next : (place : ℕ) (other : PartLine) → place < count + 1 → count ≤ place → slice_get parts place ≡ Some other → (place ≡ count) × (other ≡ part)

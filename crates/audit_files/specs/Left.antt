@@ -1,5 +1,5 @@
 -- What the opening of files for a comparison leaves where it wasn't done whole.
-use Rattle.std.specs.Prelude.{◌≡◌, ◌≢◌, ◌⊎◌, ℕ, ◌+◌, List, ◌++◌, length, slice_get, take, Option, Some, None}
+use Rattle.std.specs.Prelude.{◌≡◌, ◌≢◌, ◌⊎◌, ℕ, ◌+◌, ◌<◌, List, ◌++◌, length, slice_get, take, Option, Some, None, IsSome, IsTrue}
 use Rattle.omx_types.specs.declared.fault.Fault.{Fault}
 use Rattle.omx_types.specs.declared.fault.Fault.TheVariants as Faults
 use Rattle.omx_types.specs.declared.fault.Which.TheVariants.{Line}
@@ -12,9 +12,9 @@ use Rattle.script_lang.specs.declared.play_line.PartLine.{PartLine}
 use Rattle.script_lang.specs.declared.script.Script.{Script}
 use Rattle.play_forms.specs.Plans.{IsFit, IsFitted, IsPlanOfScript, IsValid, PlanValue}
 use Rattle.play_plan_laws.specs.Assemblies.{PlayFiles}
-use Rattle.play_result_laws.specs.Files.{written_by}
+use Rattle.play_result_laws.specs.Files.{IsWriter, written_by}
 use Rattle.play_files.specs.Asked.{HasAskedFor, read_names, written_names}
-use Rattle.play_files.specs.Left.{IsUnfit, IsUnplanned, IsUnread}
+use Rattle.play_files.specs.Left.{HaveHeads, IsUnfit, IsUnplanned, IsUnread}
 use Rattle.play_files.specs.Opening.{AreRead, IsStill}
 use Rattle.play_files.specs.Seen.{FileSeen, file_seen}
 use Rattle.play_files.specs.Stopping.{AtFit, AtSource}
@@ -73,10 +73,15 @@ module _ {S : Type 0} (g : SourceGhosts S) where
 
 -- ---- what a caller is told
 
+-- the file that the sink at the place is compared with is told, for each of the first places
+abbrev pub AreSinksThere : Outside → List PartLine → ℕ → Type 0
+AreSinksThere old parts count = IsTrue old.tells → (place : ℕ) (name : List ℕ) → place < count → IsWriter parts place name → IsSome (old.file name)
+
 -- the file for a sink wasn't opened, and those before it were
 pub record IsUnmatched (planned : PlanValue) (old new : Outside) (fault : Fault) : Type 0 where
   pub plan : PlanValue
   pub heads : List WavHead
+  pub have : HaveHeads old planned.parts (length planned.parts) heads
   pub fitted : IsFitted planned heads plan
   pub fit : IsFit plan
   pub goes_on : GoesOn old new
@@ -88,6 +93,7 @@ pub record IsUnmatched (planned : PlanValue) (old new : Outside) (fault : Fault)
   pub there : slice_get plan.parts place ≡ Some part
   pub name : List ℕ
   pub writes : written_by part.form ≡ Some name
+  pub before : AreSinksThere old plan.parts place
   pub why : IsKnownFault part.line name old new fault
   -- it was the last that was asked for, behind the sources and the files for the sinks before it
   pub asked : fault ≢ Faults.OutOfMemory → HasAskedFor old new (read_names plan.parts ++ written_names (take (place + 1) plan.parts))

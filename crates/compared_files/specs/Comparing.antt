@@ -36,6 +36,10 @@ HasMet faults size ends (Some Failed) = 0 < faults
 HasMet faults size ends (Some (Short at told_size)) = GaveNothing size ends 0 at told_size
 HasMet faults size ends _ = Unit {0}
 
+-- the file gives all its bytes
+abbrev pub IsGivenToEnd : Option (List ℕ) → Option ℕ → Type 0
+IsGivenToEnd told ends = WhereTold told (λ known. WhereTold ends (λ end. length known ≤ end))
+
 -- what holds of it, by what its file tells
 pub record IsKept {S : Type 0} (told : Option (List ℕ)) (ends : Option ℕ) (size offset faults : ℕ) (x : ComparingValue S) : Type 0 where
   pub within : x.place ≤ size

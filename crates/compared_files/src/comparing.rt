@@ -2,7 +2,7 @@
 
 ghost use Rattle.std.specs.Prelude.{◌≡◌, [], None, IsTrue, IsFalse, length};
 ghost use Rattle.outside_io.specs.Moves.{WhereTold};
-ghost use Rattle.compared_files.specs.Comparing.{HasMet, IsFrontless, given_by, told_by};
+ghost use Rattle.compared_files.specs.Comparing.{HasMet, IsFrontless, IsGivenToEnd, given_by, told_by};
 
 use outside_io::Source;
 use std::alloc::Global;
@@ -69,6 +69,7 @@ impl<S: Source> Comparing<S> {
     pub fn is_whole(&self) -> bool
         ensures whole { IsTrue result → told_by (S.told self.now.src) self.now ≡ S.told self.now.src }
         ensures other { IsFalse result → WhereTold (S.told self.now.src) (λ known. given_by known self.now ≡ known → ⊥) }
+        ensures given { IsTrue result → IsGivenToEnd (S.told self.now.src) (S.ends self.now.src) }
     {
         let size = self.src.size();
         self.other.is_empty() && self.place == size

@@ -24,7 +24,7 @@ use Rattle.omxrun.specs.Audits.{CanAudit, IsAuditOf, IsAuditOutcome, IsDecided, 
 use Rattle.omxrun.specs.Plays.{WasRead}
 use Rattle.omxrun.specs.Reports.{IsReported, status_of}
 use Rattle.omxrun.specs.declared.done.Done.{Done}
-use Rattle.omxrun.specs.declared.done.Done.TheVariants as Dones
+use Rattle.omxrun.proofs.AuditAsked.{is-yes, no-or-none}
 use Rattle.omxrun.proofs.Complete.{ReadsOnce, none-some, told-status}
 use Rattle.omxrun.proofs.PlayEnds.{IsCalm, PlansOnce, PlayOnce, calm-later, calm-of, given-later, heads-before, read-same, reader-in, script-last, short-script, sound-last, sound-later, unplanned-last, writer-in}
 
@@ -137,28 +137,15 @@ module _ (play_once : PlayOnce) (reads_once : ReadsOnce) (plans_once : PlansOnce
   IsNoOrMemory fault = ((line : ℕ) × (why : AuditWhy) × (fault ≡ Faults.NotRun line why) × IsDecided name log old new (No line why) × (IsTrue old.tells → IsLeftByPlay name log old → ⊥)) ⊎ (fault ≡ Faults.OutOfMemory)
 
   no-or-memory : (fault : Fault) → IsAuditOf name log old new (Err fault) → IsNoOrMemory fault
-  no-or-memory (Faults.NotRun line why) (D, never) = inl (line, why, refl, D, never)
-  no-or-memory (Faults.Script line why) U = inr (undecided-last (Faults.Script line why) U)
-  no-or-memory Faults.Usage U = inr (undecided-last Faults.Usage U)
-  no-or-memory (Faults.BadMedia which wav) U = inr (undecided-last (Faults.BadMedia which wav) U)
-  no-or-memory Faults.ReadFault U = inr (undecided-last Faults.ReadFault U)
-  no-or-memory Faults.WriteFault U = inr (undecided-last Faults.WriteFault U)
-  no-or-memory (Faults.Absent which) U = inr (undecided-last (Faults.Absent which) U)
-  no-or-memory Faults.OutOfMemory U = inr (undecided-last Faults.OutOfMemory U)
-  no-or-memory (Faults.Short which at size) U = inr (undecided-last (Faults.Short which at size) U)
-  no-or-memory (Faults.Units have need) U = inr (undecided-last (Faults.Units have need) U)
-  no-or-memory (Faults.Packets reason) U = inr (undecided-last (Faults.Packets reason) U)
-
-  is-yes : (done : Done) → IsAuditOf name log old new (Ok done) → (acts : ℕ) × IsDecided name log old new (Yes acts)
-  is-yes (Dones.Audited acts) (D, names) = (acts, D)
-  is-yes (Dones.Made frames) is = absurd is
-  is-yes (Dones.Packed counts) is = absurd is
-  is-yes (Dones.Unpacked counts) is = absurd is
+  no-or-memory fault is = elim (no-or-none name log old new fault is) [
+    | inl (line, why, e, N) ↦ inl (line, why, e, N.0, N.1)
+    | inr U ↦ inr (undecided-last fault U)
+  ]
 
   module _ (told told_new : Option (List ℕ)) (status : Status) where
     pub complete_audit : (outcome : Result Done Fault) → IsAuditOutcome name log old new outcome → IsReported outcome told told_new before now status → IsOfVerdict name log old status
     complete_audit (Ok done) is told_is =
-        let (acts, D) = is-yes done is.is in
+        let (acts, D) = is-yes name log old new done is.is in
         inl (Yes acts, D.told (can.asked).tells, told-status (Ok done) told told_new before now status none.print told_is)
     complete_audit (Err fault) is told_is =
         let s = told-status (Err fault) told told_new before now status none.print told_is in

@@ -1,5 +1,5 @@
 -- What the check of a log comes to, from before its script was read.
-use Rattle.std.proofs.Common.{◌≡◌, ◌≢◌, inl, inr, ℕ, List, length, Some, Result, Ok, Err, IsTrue, IfOk, IfErr, OnOk, ap, sym, subst, refl, ◌∙◌}
+use Rattle.std.proofs.Common.{◌≡◌, ◌≢◌, inl, inr, ℕ, List, length, Option, Some, Result, Ok, Err, IsTrue, IfOk, IfErr, OnOk, ap, sym, subst, refl, ◌∙◌}
 use Rattle.outside_io.specs.Files.{CountsStand, Outside}
 use Rattle.omx_types.specs.declared.fault.AuditWhy.{AuditWhy}
 use Rattle.omx_types.specs.declared.fault.Fault.{Fault}
@@ -9,15 +9,17 @@ use Rattle.script_lang.specs.declared.script.Script.{Script}
 use Rattle.script_lang.specs.declared.play_line.PartLine.{PartLine}
 use Rattle.play_forms.specs.declared.plan_fault.PlanFault.{PlanFault}
 use Rattle.play_forms.specs.declared.plan_fault.PlanFault.TheVariants as Plans
-use Rattle.play_result_laws.specs.Files.{IsNoSink, IsReader}
+use Rattle.play_result_laws.specs.Files.{IsNoSink, IsReader, IsWriter}
 use Rattle.play_files.specs.Faults.{fault_of_plan}
 use Rattle.play_files.specs.Names.{HaveOwnFiles}
+use Rattle.play_course.specs.Settling.{parts_of}
 use Rattle.audit_forms.specs.Audited.{Verdict, Yes, No}
 use Rattle.run_audit.specs.Auditing.{IsJudged, IsLogOfPlay, IsNoPlayLog, IsNotRun, IsPlayRun, IsUnaudited}
+use Rattle.run_audit.specs.Faults.{AreGivenToEnd}
 use Rattle.run_audit.specs.declared.auditing.AuditFault.{AuditFault}
 use Rattle.run_audit.specs.declared.auditing.AuditFault.TheVariants as Answers
 use Rattle.omxrun.specs.Audits.{IsAuditOf, IsAuditOutcome, IsDecided, IsLeftByPlay, IsUndecided, outcome_of_audit}
-use Rattle.omxrun.specs.Plays.{HasPlayReason, WasRead}
+use Rattle.omxrun.specs.Plays.{HasPlayReason, IsPlayIn, WasRead}
 use Rattle.omxrun.specs.declared.done.Done.{Done}
 use Rattle.omxrun.proofs.Absences.{IsAbsenceTold, none-before}
 use Rattle.omxrun.proofs.Causes.{CountsStand-then}
@@ -78,6 +80,7 @@ unread-audit name log old new fault same writes reason told = record {
   unwritten = writes;
   unabsent = told;
   stand = tt;
+  given = λ tells. tt;
   is = undecided-of name log old new fault (inl reason);
 }
 
@@ -142,32 +145,44 @@ decided-of name log old mid new script verdict W J = record {
 }
 
 module _ (once : PlayOnce) (names : OwnNames) (name log : List ℕ) (old mid new : Outside) (script : Script) (W : WasRead name log old mid script) (files : new.file ≡ mid.file) (writes : new.write_faults ≡ mid.write_faults) where
+  -- what each sink's file gives, before the script was read
+  given-before : IsTrue old.tells → (its : Script) → IsPlayIn name log old its → AreGivenToEnd script mid → AreGivenToEnd its old
+  given-before tells its P given place file writer =
+      let held : old.file name ≡ Some W.text = W.held tells in
+      let text : P.bytes ≡ W.text = same-text P.bytes W.text (old.file name) P.held held in
+      let same : its ≡ script = one-script once name log W.text its script (subst (λ (t : List ℕ). IsPlayScript name log t its) text P.is) W.is in
+      λ known is end at. given place file (subst (λ (s : Script). IsWriter (parts_of s) place file) same writer)
+      known (at-name mid.file old.file file W.files ∙ is) end (ap (λ (f : List ℕ → Option ℕ). f file) (W.goes_on).ends ∙ at)
+
   pub audit-outcome : (answer : Result ℕ AuditFault) → IfOk answer (λ acts. IsJudged script log mid new (Yes acts)) → OnOk answer (CountsStand mid new) → IfErr answer (IsNotRun script log mid new)
-      → IfOk answer (IsPlayRun script log mid) → IfErr answer (IsNoPlayLog script log mid) → IsAuditOutcome name log old new (outcome_of_audit answer)
-  audit-outcome (Ok acts) J stand other plays never = record {
+      → (IsTrue mid.tells → OnOk answer (AreGivenToEnd script mid)) → IfOk answer (IsPlayRun script log mid) → IfErr answer (IsNoPlayLog script log mid) → IsAuditOutcome name log old new (outcome_of_audit answer)
+  audit-outcome (Ok acts) J stand other given plays never = record {
     kept = files ∙ W.files;
     unwritten = writes ∙ (W.stand).writes;
     unabsent = J.absences ∙ W.absences;
     stand = CountsStand-then old mid new W.stand stand;
+    given = λ tells its P. given-before tells its P (given ((W.goes_on).tells ∙ tells));
     is = (
       decided-of name log old mid new script (Yes acts) W J,
       λ tells. names-in old mid W.files name log acts (plays ((W.goes_on).tells ∙ tells) name W.text (at-name mid.file old.file name W.files ∙ W.held tells) W.is),
     );
   }
-  audit-outcome (Err (Answers.No line why)) judged stand J plays never = record {
+  audit-outcome (Err (Answers.No line why)) judged stand J given plays never = record {
     kept = files ∙ W.files;
     unwritten = writes ∙ (W.stand).writes;
     unabsent = λ _. J.absences ∙ W.absences;
     stand = tt;
+    given = λ tells. tt;
     is = (
       decided-of name log old mid new script (No line why) W J,
       λ tells left. never ((W.goes_on).tells ∙ tells) (left-log once names name log old mid script W tells left),
     );
   }
-  audit-outcome (Err (Answers.Fault fault)) judged stand U plays never = record {
+  audit-outcome (Err (Answers.Fault fault)) judged stand U given plays never = record {
     kept = files ∙ W.files;
     unwritten = writes ∙ (W.stand).writes;
     unabsent = none-before {T = Done} old mid new (Err fault) W.absences (unaudited-told script log mid new fault U);
     stand = tt;
+    given = λ tells. tt;
     is = undecided-of name log old new fault (inr (script, mid, W, U));
   }

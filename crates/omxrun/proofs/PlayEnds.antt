@@ -25,9 +25,7 @@ use Rattle.wav_form.specs.Reading.{Reads}
 use Rattle.play_forms.specs.declared.joint.Joint.{Joint}
 use Rattle.play_forms.specs.declared.plan_fault.PlanFault.{PlanFault}
 use Rattle.play_forms.specs.declared.plan_fault.PlanFault.TheVariants as Plans
-use Rattle.play_forms.specs.Joints.{AllJoin, AllLinked, headers_of, joints_of}
-use Rattle.play_forms.specs.Parts.{units_needed}
-use Rattle.play_forms.specs.Placing.{IsOrder}
+use Rattle.play_forms.specs.Joints.{joints_of}
 use Rattle.play_forms.specs.Plans.{IsFaultOfScript, IsFit, IsFitFault, IsFitted, IsPlanOf, IsPlanOfScript, IsSameFault, IsShapeFault, IsValid, PlanValue}
 use Rattle.play_plan_laws.specs.Assemblies.{PlayFiles}
 use Rattle.play_result_laws.specs.Files.{AreFiles, IsReader, IsWriter, read_by}
@@ -36,6 +34,7 @@ use Rattle.play_files.specs.Left.{HaveHeads, IsUnplanned, IsUnread as IsUnopened
 use Rattle.play_files.specs.Opening.{IsShortHead, IsSinkFault, IsSourceFault}
 use Rattle.play_course.specs.Outcomes.{IsLogFault, IsRunFault, IsUndone, WasOpened}
 use Rattle.play_course.specs.Settling.{parts_of}
+use Rattle.run_audit.proofs.FaultOfCall.{fitted_valid, valid_of}
 use Rattle.omxrun.specs.Asked.{CanPlay, HasNoPlan, IsAsked, IsFaulty, IsFaultless, IsGiven, IsMisfitted, IsOrMemory, IsSound, IsUnread}
 use Rattle.omxrun.specs.Plays.{HasPlayReason, IsPlayOutcome, IsPlayReported, IsUnplayed, WasRead, play_text}
 use Rattle.omxrun.specs.Reports.{status_of}
@@ -216,7 +215,7 @@ one-fault : (a b : ScriptFault) (one other : Result PlayBefore ScriptFault) → 
 one-fault a b one other p q same = let e : Err a ≡ Err b = sym p ∙ (same ∙ q) in cc
 
 -- it is none, by this fault
-unread-last : PlayOnce → (name log : List ℕ) (old new : Outside) (line : ℕ) (bad : ScriptWhy) (fault : Fault) → IsCalm old new → IsUnread name log old line bad → HasPlayReason name log old new fault → (fault ≡ Faults.Script line bad) ⊎ (fault ≡ Faults.OutOfMemory)
+pub unread-last : PlayOnce → (name log : List ℕ) (old new : Outside) (line : ℕ) (bad : ScriptWhy) (fault : Fault) → IsCalm old new → IsUnread name log old line bad → HasPlayReason name log old new fault → (fault ≡ Faults.Script line bad) ⊎ (fault ≡ Faults.OutOfMemory)
 unread-last once name log old new line bad (Faults.Script at_line why) calm has is =
     (let N = is.1 has.tells in
     let e = one-fault (fault_at at_line why) (fault_at line bad) (Err (fault_at at_line why)) (Err (fault_at line bad)) refl refl (once name log has.bytes (Err (fault_at at_line why)) (Err (fault_at line bad)) (subst (λ (b : List ℕ). PlayReadsAs name log b (Err (fault_at at_line why))) (same-text N.bytes has.bytes (old.file name) N.held (has.given).held) N.refused) has.refused) in
@@ -359,7 +358,7 @@ fault-status : (outcome : Fault) (wanted : Fault) (told told_new : Option (List 
 fault-status outcome wanted told told_new before now status print told_is (inl is) = inl (play-status (Err outcome) told told_new before now status print told_is ∙ ap Statuses.Fault is)
 fault-status outcome wanted told told_new before now status print told_is (inr is) = inr (play-status (Err outcome) told told_new before now status print told_is ∙ ap Statuses.Fault is)
 
-none-read : PlayOnce → (name log text : List ℕ) (old : Outside) (line : ℕ) (why : ScriptWhy) (script : Script) → IsTrue old.tells → (IsTrue old.tells → old.file name ≡ Some text) → IsPlayScript name log text script → IsUnread name log old line why → ⊥
+pub none-read : PlayOnce → (name log text : List ℕ) (old : Outside) (line : ℕ) (why : ScriptWhy) (script : Script) → IsTrue old.tells → (IsTrue old.tells → old.file name ≡ Some text) → IsPlayScript name log text script → IsUnread name log old line why → ⊥
 none-read once name log text old line why script tells held is has =
     no-play once name log has.bytes script (fault_at line why) (subst (λ (t : List ℕ). IsPlayScript name log t script) (same-text text has.bytes (old.file name) (held tells) (has.given).held) is) has.refused
 
@@ -427,29 +426,6 @@ FitsNot = (plan : PlanValue) (fault : PlanFault) → IsFit plan → IsFitFault p
 abbrev pub MisfitsOnce : Type 0
 MisfitsOnce = (plan : PlanValue) (fault other : PlanFault) → IsValid plan → IsFitFault plan fault → IsFitFault plan other → fault ≡ other
 
-valid-of : (script : Script) (planned : PlanValue) → IsPlanOfScript script planned → IsValid planned
-valid-of (Play units parts links) planned is = is.valid
-valid-of (Trace units lines) planned is = absurd is
-
--- a valid plan stays valid with what goes through its links
-fitted-valid : (planned fitted : PlanValue) (heads : List WavHead) → IsValid planned → IsFitted planned heads fitted → IsValid fitted
-fitted-valid planned fitted heads V F =
-    let parts = sym F.parts in
-    let joints = sym F.joints in
-    let order = sym F.order in
-    let units = sym F.units in
-    record {
-      most = subst (λ (ps : List PartLine). length ps ≤ 32) parts V.most;
-      joined = subst (λ (js : List Joint). AllJoin fitted.parts js) joints (subst (λ (ps : List PartLine). AllJoin ps planned.joints) parts V.joined);
-      linked = subst (λ (js : List Joint). AllLinked fitted.parts js) joints (subst (λ (ps : List PartLine). AllLinked ps planned.joints) parts V.linked);
-      few = subst (λ (js : List Joint). headers_of js ≤ 1024) joints V.few;
-      placed = subst (λ (o : List ℕ). IsOrder fitted.joints (length fitted.parts) o) order
-          (subst (λ (js : List Joint). IsOrder js (length fitted.parts) planned.order) joints (subst (λ (ps : List PartLine). IsOrder planned.joints (length ps) planned.order) parts V.placed));
-      enough = subst (λ (u : ℕ). units_needed fitted.parts ≤ u) units (subst (λ (ps : List PartLine). units_needed ps ≤ planned.units) parts V.enough);
-      flows = (F.flows).many ∙ ap length joints;
-      frames = (F.frames).many ∙ ap length parts;
-    }
-
 -- the heads of sources that are told are those of the files
 heads-told : (old : Outside) (parts : List PartLine) (files : PlayFiles) (samples : List (List ℕ)) → AreFiles old parts files samples → HaveHeads old parts (length parts) files.heads
 heads-told old parts files samples A = λ tells place name b reader. (let R = A.sources place name reader in (R.head, R.head_is, (R.bytes, R.held, R.reads)))
@@ -470,7 +446,7 @@ module _ (reads_once : ReadsOnce) (plans_once : PlansOnce) (never : FitsNot) (mi
       let M = U.met in
       inr (sound-last reads_once (M.part).line M.name mid new fault tells calm (sources U.place M.name (reader-in script planned planned U.place M.name is refl (M.part, M.there, M.reads))) (M.refused).why)
   misfit-told (inl (inr (planned, is, inr (inl U)))) =
-      let V = fitted-valid planned U.plan U.heads (valid-of script planned is) U.fitted in
+      let V = fitted_valid planned U.plan U.heads (valid_of script planned is) U.fitted in
       inl (U.told ∙ ap fault_of_plan (misfits_once U.plan U.why why V U.is (misfits planned U.plan U.heads is U.have U.fitted)))
   misfit-told (inl (inr (planned, is, inr (inr U)))) = let f = U.files_are tells in absurd (fitted-none planned U.plan U.files f.0 is U.fitted U.fit f.1)
   misfit-told (inr (inl B)) = let left = B.left tells in absurd (opened-none B.plan B.files left.samples B.opened left.files_are)

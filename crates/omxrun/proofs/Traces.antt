@@ -211,7 +211,7 @@ HasTraced name old new told told_new before now status =
     (outcome : Result (Unit {0}) Fault) × (text : List ℕ) × IsTraceOutcome name old new outcome text × IsPrinted (status_of outcome) text told told_new before now status
 
 ended-trace : (name bytes : List ℕ) (old new : Outside) (read : Script) (outcome : Result (Unit {0}) Fault) (text : List ℕ) → ReadsOnce → IsTrue old.tells → IsGiven old name bytes → IsScript bytes read → (Rose old.read_faults new.read_faults → ⊥) → IsTraceOf name old new outcome text → IsOrMemory (status_of outcome) Statuses.Ok
-ended-trace name bytes old new read outcome text once tells given script none (inl (found, _, traces)) = traced-status found outcome text traces
+ended-trace name bytes old new read outcome text once tells given script none (inl (found, _, traces, _)) = traced-status found outcome text traces
 ended-trace name bytes old new read outcome text once tells given script none (inr (fault, reason, is, _)) = elim (left-fault name bytes old new fault tells given none reason) [
   | inl memory ↦ inr (ap status_of is ∙ ap Statuses.Fault memory)
   | inr left ↦ (let before = script.0 in absurd (ok-err before (fault_at left.0 left.1) (Ok before) refl (once bytes (Ok before) (Err (fault_at left.0 left.1)) script.1 left.3)))
@@ -223,7 +223,7 @@ complete_trace name old new told told_new before now status once (outcome, text,
     subst (λ (s : Status). IsOrMemory s Statuses.Ok) (sym same) (ended-trace name can.bytes old new can.read outcome text once can.tells can.given can.is none.read is.is)
 
 refused-trace : (name bytes : List ℕ) (old new : Outside) (line : ℕ) (why : ScriptWhy) (outcome : Result (Unit {0}) Fault) (text : List ℕ) → ReadsOnce → IsTrue old.tells → IsGiven old name bytes → ReadsAs bytes (Err (fault_at line why)) → (Rose old.read_faults new.read_faults → ⊥) → IsTraceOf name old new outcome text → IsOrMemory (status_of outcome) (Statuses.Fault (Faults.Script line why))
-refused-trace name bytes old new line why outcome text once tells given refused none (inl (found, in_file, _)) =
+refused-trace name bytes old new line why outcome text once tells given refused none (inl (found, in_file, _, _)) =
     let before = in_file.is.0 in
     let reads = subst (λ (b : List ℕ). ReadsAs b (Ok before)) (same-text in_file.bytes bytes (old.file name) (in_file.held tells) given.held) in_file.is.1 in
     absurd (ok-err before (fault_at line why) (Ok before) refl (once bytes (Ok before) (Err (fault_at line why)) reads refused))

@@ -16,11 +16,12 @@ use Rattle.audit_forms.specs.Audited.{Verdict, Yes, No}
 use Rattle.audit_forms.specs.Whole.{IsAudited}
 use Rattle.audit_laws.specs.Played.{IsPlayedBy}
 use Rattle.run_audit.specs.Auditing.{IsJudged, IsUnaudited}
+use Rattle.run_audit.specs.Faults.{AreGivenToEnd}
 use Rattle.run_audit.specs.declared.auditing.AuditFault.{AuditFault}
 use Rattle.run_audit.specs.declared.auditing.AuditFault.TheVariants as Answers
 use Rattle.omxrun.specs.Absences.{AreAbsencesTold}
 use Rattle.omxrun.specs.Asked.{IsAsked, IsGiven, IsSound}
-use Rattle.omxrun.specs.Plays.{HasPlayReason, IsPlayOutcome, WasRead}
+use Rattle.omxrun.specs.Plays.{HasPlayReason, IsPlayIn, IsPlayOutcome, WasRead}
 use Rattle.omxrun.specs.Words.{IsPlay}
 use Rattle.omxrun.specs.declared.done.Done.{Done}
 use Rattle.omxrun.specs.declared.done.Done.TheVariants.{Audited}
@@ -74,12 +75,14 @@ IsAuditOf name log old new (Ok other) = ⊥
 IsAuditOf name log old new (Err (Faults.NotRun line why)) = IsDecided name log old new (No line why) × (IsTrue old.tells → IsLeftByPlay name log old → ⊥)
 IsAuditOf name log old new (Err other) = IsUndecided name log old new other
 
--- what the check of a log comes to: no told file changes, and nothing is written; a yes only where no read failed
+-- what the check of a log comes to: no told file changes, and nothing is written; a yes only where no read failed and each sink's file was
+-- given to its end
 pub record IsAuditOutcome (name log : List ℕ) (old new : Outside) (outcome : Result Done Fault) : Type 0 where
   pub kept : new.file ≡ old.file
   pub unwritten : new.write_faults ≡ old.write_faults
   pub unabsent : AreAbsencesTold old new outcome
   pub stand : OnOk outcome (CountsStand old new)
+  pub given : IsTrue old.tells → OnOk outcome ((script : Script) → IsPlayIn name log old script → AreGivenToEnd script old)
   pub is : IsAuditOf name log old new outcome
 
 -- ---- when there is one

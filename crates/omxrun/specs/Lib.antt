@@ -1,5 +1,6 @@
 pub mod Absences
 pub mod Asked
+pub mod AuditFaults
 pub mod Audits
 pub mod Clocked
 pub mod Commands
@@ -15,8 +16,3 @@ pub mod Texts
 pub mod Traced
 pub mod Turned
 pub mod Words
-pub mod Reasons
-pub mod Seated
-pub mod Sights
-pub mod Runs
-pub mod Answers

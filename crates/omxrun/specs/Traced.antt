@@ -10,6 +10,7 @@ use Rattle.omx_types.specs.declared.fault.ScriptWhy.{ScriptWhy}
 use Rattle.script_lang.specs.LineByLine.{fault_at}
 use Rattle.script_lang.specs.Scripts.{IsScript, ReadsAs}
 use Rattle.script_lang.specs.declared.script.Script.{Script}
+use Rattle.trace_run.specs.OneTrace.{HasOneText}
 use Rattle.trace_run.specs.Traced.{IsTraced, IsTracedTo}
 use Rattle.omxrun.specs.Absences.{AreAbsencesTold}
 use Rattle.omxrun.specs.Texts.{fault_line}
@@ -43,10 +44,10 @@ TracesTo script (Err Faults.OutOfMemory) text =
     (count : ℕ) × (lines : List ℕ) × IsTracedTo count script lines × (text ≡ lines ++ fault_line Faults.OutOfMemory)
 TracesTo script (Err other) text = ⊥
 
--- the file is a script, which is traced; or the line of a fault is all the text
+-- the file is a script, which has one text and is traced; or the line of a fault is all the text
 abbrev pub IsTraceOf : List ℕ → Outside → Outside → Result (Unit {0}) Fault → List ℕ → Type 0
 IsTraceOf name old new outcome text =
-    ((script : Script) × IsScriptIn name old script × TracesTo script outcome text)
+    ((script : Script) × IsScriptIn name old script × TracesTo script outcome text × HasOneText script)
     ⊎ ((fault : Fault) × HasScriptReason name old new fault × (outcome ≡ Err fault) × (text ≡ fault_line fault))
 
 -- what a trace comes to: no told file changes; done whole only where no read and no write failed

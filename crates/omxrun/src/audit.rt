@@ -25,10 +25,8 @@ pub fn audit_file<M: Media>(
 {
     one_play();
     law_of_names();
-    match script_of(alloc, media, name, log) {
-        Ok(script) => outcome_of(audit(alloc, &script, media, log)),
-        Err(fault) => Err(fault),
-    }
+    let script = script_of(alloc, media, name, log)?;
+    outcome_of(audit(alloc, &script, media, log))
 }
 
 /// What the command comes to by what the check of a log answered.

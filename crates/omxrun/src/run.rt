@@ -8,9 +8,10 @@ ghost use Rattle.omx_types.specs.declared.fault.WavFault.{WavFault};
 ghost use Rattle.omxrun.specs.declared.done.Done.{Done};
 ghost use Rattle.play_forms.specs.declared.plan_fault.PlanFault.{PlanFault};
 ghost use Rattle.play_files.specs.Faults.{fault_of_plan};
-ghost use Rattle.audit_forms.specs.Audited.{Verdict};
+ghost use Rattle.audit_forms.specs.Audited.{Verdict, Yes};
 ghost use Rattle.audit_forms.specs.Whole.{IsAudited};
 ghost use Rattle.omxrun.specs.Asked.{IsUntraced, CanTrace, IsUnread, HasNoPlan, IsMisfitted, IsFaulty, CanPlay, CanMake, IsFaultless, IsOrMemory};
+ghost use Rattle.omxrun.specs.AuditFaults.{AsksAudit, HasCutSink, IsShortOrMemory};
 ghost use Rattle.omxrun.specs.Audits.{CanAudit, IsAuditOutcome, IsLeftByPlay, IsOfVerdict, status_by};
 ghost use Rattle.omxrun.specs.Clocked.{IsClockOutcome, CanClock, IsUnclocked};
 ghost use Rattle.omxrun.specs.Commands.{HasRun};
@@ -144,6 +145,15 @@ pub fn run_words<R: Threads + Wait + Sync, M: Media, O: Sink>(
     ensures left_by_play { (script log : List ℕ) → AreWordsOf (map string_bytes words.now) (to_audit script log) →
         IsFaultless (M.outside media.old) (M.outside media.new) (O.faults out.old) (O.faults out.new) →
         CanAudit script log (M.outside media.old) → IsLeftByPlay script log (M.outside media.old) → IsOrMemory result Status.Ok }
+
+    // Where the files ask for a fault, the check tells that one; where the log has a yes, but the file of a sink ends early, it tells a
+    // file that does; or memory was wanting.
+    ensures asked_audit { (script log : List ℕ) (fault : Fault) → AreWordsOf (map string_bytes words.now) (to_audit script log) →
+        IsFaultless (M.outside media.old) (M.outside media.new) (O.faults out.old) (O.faults out.new) →
+        AsksAudit script log (M.outside media.old) fault → IsOrMemory result (Status.Fault fault) }
+    ensures cut_audit { (script log : List ℕ) (acts : ℕ) → AreWordsOf (map string_bytes words.now) (to_audit script log) →
+        IsFaultless (M.outside media.old) (M.outside media.new) (O.faults out.old) (O.faults out.new) →
+        HasCutSink script log (M.outside media.old) → IsAudited script log (M.outside media.old) (Yes acts) → IsShortOrMemory result }
 {
     one_answer();
     one_outcome();

@@ -6,6 +6,7 @@ ghost use Rattle.script_lang.specs.Scripts.{IsOfCommand};
 ghost use Rattle.omxrun.specs.Absences.{AreAbsencesTold};
 ghost use Rattle.omxrun.specs.Faults.{fault_of_script, fault_of_reading};
 ghost use Rattle.omxrun.specs.Reports.{HasStopped, IsPrinted, status_of};
+ghost use Rattle.trace_run.specs.OneTrace.{HasOneText};
 ghost use Rattle.omxrun.specs.Traced.{IsScriptIn, HasScriptReason, TracesTo, IsTraceOutcome};
 
 use crate::print::report;
@@ -94,6 +95,7 @@ fn trace_script<O: Sink>(alloc: Global, script: &Script, out: &mut O) -> Status
     ensures stopped { HasStopped (O.writing out.old) (O.writing out.new) result }
     ensures traced { (outcome : Result (Unit {0}) Fault) × (text : List ℕ) × TracesTo script.now outcome text
         × IsPrinted (status_of outcome) text (O.told out.old) (O.told out.new) (O.faults out.old) (O.faults out.new) result }
+    ensures one { HasOneText script.now }
 {
     let before = out.faults();
     let outcome = trace(alloc, script, out);

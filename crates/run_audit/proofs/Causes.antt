@@ -52,10 +52,10 @@ end_same None (Some end) e = absurd (omega (arith, e))
 end_same (Some end) None e = absurd (omega (arith, e))
 end_same (Some end) (Some more) e = let same : end ≡ more = omega (arith, e) in ap Some same
 
-known_bytes : (told other : Option (List ℕ)) (ends more : Option ℕ) → known_by told ends ≡ known_by other more → told ≡ other
+pub known_bytes : (told other : Option (List ℕ)) (ends more : Option ℕ) → known_by told ends ≡ known_by other more → told ≡ other
 known_bytes told other ends more e = let same : bytes_word told ≡ bytes_word other = cc in bytes_same told other same
 
-known_ends : (told other : Option (List ℕ)) (ends more : Option ℕ) → known_by told ends ≡ known_by other more → ends ≡ more
+pub known_ends : (told other : Option (List ℕ)) (ends more : Option ℕ) → known_by told ends ≡ known_by other more → ends ≡ more
 known_ends told other ends more e = let same : end_word ends ≡ end_word more = cc in end_same ends more same
 
 behind_head : (old : Outside) (name : List ℕ) (head : WavHead) (source : SourceSeen) (at : ℕ) → IsSourceOf old name head source → source.offset ≤ at → (other : WavHead) → HasHead old name other → other.start ≤ at

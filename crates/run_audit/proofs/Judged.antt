@@ -26,9 +26,10 @@ use Rattle.play_graph.specs.Making.{AreOffered}
 use Rattle.compared_files.specs.Comparing.{ComparingValue}
 use Rattle.graph_acts.specs.Sinks.{written_to}
 use Rattle.audit_files.specs.Compared.{AreCompared, IsComparedBy, compared}
+use Rattle.audit_files.proofs.Writing.{told_there}
 use Rattle.audit_forms.specs.Audited.{Verdict}
 use Rattle.audit_forms.specs.Whole.{IsAudited, file_by}
-use Rattle.run_audit.specs.Auditing.{HasVerdict}
+use Rattle.run_audit.specs.Auditing.{AreFound, HasVerdict}
 use Rattle.run_audit.specs.Replayed.{AreGiven, IsVerdictBy}
 use Rattle.run_audit.specs.Replaying.{IsComparedWith}
 
@@ -60,6 +61,12 @@ module _ {S : Type 0} (reads : SourceGhosts S) (script : Script) (old mid : Outs
 
   pub opened : WasOpened script old plan A.known
   opened = record { planned = A.planned; is_plan = A.is_plan; fitted = A.fitted; fit = A.fit; ready = A.ready }
+
+  pub found : AreFound old plan A.known
+  found = record {
+    sources = λ tells place name b reader. (let R = ((A.files_are tells).1).sources place name reader in (R.head, R.head_is, (R.bytes, R.held, R.reads)));
+    sinks = λ tells place name b (part, e, w). (let h = A.sinks place part name e w in told_there reads old plan.parts plan.frames (slice_index_or plan.frames place 0) name h.0 h.2 tells);
+  }
 
   same_at : (place : ℕ) (a b : Entry) → slice_get entries place ≡ Some a → slice_get entries place ≡ Some b → a ≡ b
   same_at place a b e f = let s : Some a ≡ Some b = sym e ∙ f in cc

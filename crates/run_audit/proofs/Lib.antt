@@ -40,4 +40,8 @@ mod Replays
 mod Trying
 mod Judged
 mod Causes
-mod Outcome
+pub mod Outcome
+pub mod FaultOfFile
+pub mod FaultOfCall
+mod ToTheEnd
+mod EveryText

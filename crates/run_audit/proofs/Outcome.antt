@@ -1,5 +1,5 @@
 -- What an audit comes to.
-use Rattle.std.proofs.Common.{◌≡◌, ◌≢◌, inl, inr, ℕ, ◌+◌, ◌-◌, ◌<◌, ◌≤◌, ◌^◌, Bool, List, [], ◌∷◌, ◌++◌, length, slice_get, Option, Some, None, Result, Ok, Err, IfErr, IfOk, OnOk, IsTrue, false, option_map, refl, sym, ◌∙◌, ap, subst, arith}
+use Rattle.std.proofs.Common.{◌≡◌, ◌≢◌, inl, inr, ℕ, ◌+◌, ◌-◌, ◌<◌, ◌≤◌, ◌^◌, Bool, List, [], ◌∷◌, ◌++◌, length, slice_get, Option, Some, None, Result, Ok, Err, IfErr, IfOk, OnOk, IsSome, IsTrue, false, option_map, refl, sym, ◌∙◌, ap, subst, arith}
 use Rattle.std.specs.Result.{is_ok}
 use Rattle.omx_types.specs.declared.fault.Fault.{Fault}
 use Rattle.omx_types.specs.declared.fault.Fault.TheVariants as Faults
@@ -11,7 +11,7 @@ use Rattle.outside_io.specs.declared.whole.Unread.{Unread}
 use Rattle.outside_io.specs.declared.whole.Unread.TheVariants as reasons
 use Rattle.outside_io.specs.Causes.{Rose}
 use Rattle.outside_io.specs.Files.{AbsencesStand, CountsStand, GoesOn, Outside, TellsAbsence}
-use Rattle.outside_io.specs.Whole.{HasReadReason, IsShort}
+use Rattle.outside_io.specs.Whole.{HasReadReason, IsShort, WasOpened as WasFound}
 use Rattle.audio_parts.specs.declared.part_file.PartFile.{PartFile}
 use Rattle.audio_parts.specs.declared.part_file.PartFile.TheVariants as files
 use Rattle.audio_parts.specs.Objects.{FileShows, OnBoth, SinkShows, SourceShows}
@@ -37,7 +37,7 @@ use Rattle.audit_laws.specs.Played.{IsPlayedBy}
 use Rattle.run_audit.specs.declared.auditing.AuditFault.{AuditFault}
 use Rattle.run_audit.specs.declared.replaying.Replayed.{Replayed}
 use Rattle.run_audit.specs.declared.replaying.Replayed.TheVariants as comes
-use Rattle.run_audit.specs.Auditing.{HasVerdict, IsBrokenOff, IsJudged, IsLogFault, IsLogOfPlay, IsLogUnread, IsMetBy, IsNoPlayLog, IsNotRun, IsPlayRun, IsStepFault, IsUnaudited, fault_of_step, fault_of_unread, outcome_of}
+use Rattle.run_audit.specs.Auditing.{AreFound, HasVerdict, IsBrokenOff, IsJudged, IsLogFault, IsLogOfPlay, IsLogThere, IsLogUnread, IsMetBy, IsNoPlayLog, IsNotRun, IsPlayRun, IsStepFault, IsUnaudited, fault_of_step, fault_of_unread, outcome_of}
 use Rattle.run_audit.specs.Opening.{play_sight}
 use Rattle.run_audit.specs.Replayed.{AreGiven, FilesComeBack, IsVerdictBy, OnFailure, OnVerdict}
 use Rattle.run_audit.specs.Seeing.{compared}
@@ -80,6 +80,9 @@ given_so reads script old mid plan before A name lines text is now e =
 
 -- ---- the log
 
+pub is_there : {held : Option (List ℕ)} {text : List ℕ} → held ≡ Some text → IsSome held
+is_there {held} {text} e = subst (λ (o : Option (List ℕ)). IsSome o) (sym e) refl
+
 module _ {S : Type 0} (reads : SourceGhosts S) (script : Script) (log : List ℕ) (old mid late new : Outside) (plan : PlanValue) (before after : List (Option (PartFile S (ComparingValue S)))) (A : AreCompared reads script old mid plan before)
     (goes : GoesOn mid late) (same_files : late.file ≡ mid.file) (same_writes : late.write_faults ≡ mid.write_faults) (C : AreClosed (files_seen (read_seen reads) after) late new (Ok tt)) where
   no_sink_seen : (file : Option (PartFile S (ComparingValue S))) (sink : SinkSeen) (frames : ℕ) → option_map (read_seen reads) file ≡ Some (Writes sink frames) → ⊥
@@ -99,24 +102,31 @@ module _ {S : Type 0} (reads : SourceGhosts S) (script : Script) (log : List ℕ
   opened : WasOpened script old plan A.known
   opened = judged.opened reads script old mid plan before A
 
+  found : AreFound old plan A.known
+  found = judged.found reads script old mid plan before A
+
+  log_there : (IsTrue mid.tells → IsSome (mid.file log)) → IsLogThere log old
+  log_there there t = subst (λ (f : List ℕ → Option (List ℕ)). IsSome (f log)) (A.still).files (there (((A.still).goes_on).tells ∙ t))
+
   -- ---- the log wasn't read
 
-  log_why : (unread : Unread) → HasReadReason log (2 ^ 64 - 1) mid late unread → IsLogFault log old new (fault_of_unread unread)
-  log_why reasons.Absent r =
+  log_why : (unread : Unread) → HasReadReason log (2 ^ 64 - 1) mid late unread → (IsTrue mid.tells → WasFound unread → IsSome (mid.file log)) → IsLogFault log old new (fault_of_unread unread)
+  log_why reasons.Absent r there =
       let a = (A.still).absences in
       let b = C.absences in
       (refl, subst (λ (n : ℕ). Rose n new.absences) a (subst (λ (n : ℕ). Rose mid.absences n) (sym b) r.0), ap (λ (f : List ℕ → Option (List ℕ)). f log) (sym (A.still).files) ∙ r.1)
-  log_why reasons.Failed r = let a = (A.still).reads in let b = (C.goes_on).read_faults in omega (arith, r, a, b)
-  log_why (reasons.TooLong size) r = tt
-  log_why (reasons.Short at size) r = (
+  log_why reasons.Failed r there = let a = (A.still).reads in let b = (C.goes_on).read_faults in omega (arith, r, a, b)
+  log_why (reasons.TooLong size) r there = tt
+  log_why (reasons.Short at size) r there = (
     refl,
     record {
       below = r.below;
       stopped = λ end is. r.stopped end (ap (λ (f : List ℕ → Option ℕ). f log) ((A.still).goes_on).ends ∙ is);
       whole = λ bytes is. r.whole bytes (ap (λ (f : List ℕ → Option (List ℕ)). f log) (A.still).files ∙ is);
     },
+    log_there (λ t. there t tt),
   )
-  log_why reasons.OutOfMemory r = tt
+  log_why reasons.OutOfMemory r there = tt
 
   log_absent : (unread : Unread) → (unread ≢ reasons.Absent → late.absences ≡ mid.absences) → TellsAbsence Faults.Absent old new (fault_of_unread unread)
   log_absent reasons.Absent k none = absurd (none Log refl)
@@ -125,15 +135,16 @@ module _ {S : Type 0} (reads : SourceGhosts S) (script : Script) (log : List ℕ
   log_absent (reasons.Short at size) k none = C.absences ∙ (k (λ e. cc) ∙ (A.still).absences)
   log_absent reasons.OutOfMemory k none = C.absences ∙ (k (λ e. cc) ∙ (A.still).absences)
 
-  pub unread_log : (unread : Unread) (fault : Fault) → fault ≡ fault_of_unread unread → HasReadReason log (2 ^ 64 - 1) mid late unread → ((unread ≢ reasons.Absent) → late.absences ≡ mid.absences)
+  pub unread_log : (unread : Unread) (fault : Fault) → fault ≡ fault_of_unread unread → HasReadReason log (2 ^ 64 - 1) mid late unread → (IsTrue mid.tells → WasFound unread → IsSome (mid.file log)) → ((unread ≢ reasons.Absent) → late.absences ≡ mid.absences)
       → ((unread ≢ reasons.OutOfMemory) → HasAskedFor mid late (log ∷ [])) → IsUnaudited script log old new fault
-  unread_log unread fault is why absences asked = subst (IsUnaudited script log old new) (sym is) (inr (inl (record {
+  unread_log unread fault is why there absences asked = subst (IsUnaudited script log old new) (sym is) (inr (inl (record {
     plan = plan;
     files = A.known;
     opened = opened;
+    found = found;
     asked = λ n. C.openings ∙ asked_then old mid late (read_names plan.parts ++ written_names plan.parts) (log ∷ []) A.asked (asked (not_memory unread n));
     unabsent = log_absent unread absences;
-    why = log_why unread why;
+    why = log_why unread why there;
   })))
     where
       not_memory : (u : Unread) → fault_of_unread u ≢ Faults.OutOfMemory → u ≢ reasons.OutOfMemory
@@ -141,7 +152,7 @@ module _ {S : Type 0} (reads : SourceGhosts S) (script : Script) (log : List ℕ
 
   -- ---- it was
 
-  module _ (asked : HasAskedFor mid late (log ∷ [])) (absences : late.absences ≡ mid.absences) (still_reads : late.read_faults ≡ mid.read_faults) where
+  module _ (asked : HasAskedFor mid late (log ∷ [])) (absences : late.absences ≡ mid.absences) (still_reads : late.read_faults ≡ mid.read_faults) (there : IsTrue mid.tells → IsSome (mid.file log)) where
     all_asked : HasAskedFor old new ((read_names plan.parts ++ written_names plan.parts) ++ log ∷ [])
     all_asked = C.openings ∙ asked_then old mid late (read_names plan.parts ++ written_names plan.parts) (log ∷ []) A.asked asked
 
@@ -149,7 +160,7 @@ module _ {S : Type 0} (reads : SourceGhosts S) (script : Script) (log : List ℕ
     stood = C.absences ∙ (absences ∙ (A.still).absences)
 
     pub broken : (fault : Fault) → IsStepFault plan.parts old new fault → IsUnaudited script log old new fault
-    broken fault why = inr (inr (record { plan = plan; files = A.known; opened = opened; asked = all_asked; absences = stood; why = why }))
+    broken fault why = inr (inr (record { plan = plan; files = A.known; opened = opened; found = found; log_there = log_there there; asked = all_asked; absences = stood; why = why }))
 
     -- the count rose while they were closed
     pub risen : (new.read_faults ≡ late.read_faults → ⊥) → IsUnaudited script log old new Faults.ReadFault
@@ -159,7 +170,7 @@ module _ {S : Type 0} (reads : SourceGhosts S) (script : Script) (log : List ℕ
     counts e = record { reads = e ∙ (still_reads ∙ (A.still).reads); writes = new_writes }
 
     pub judges : (verdict : Verdict) → HasVerdict script log old verdict → IsJudged script log old new verdict
-    judges verdict V = record { plan = plan; files = A.known; opened = opened; asked = all_asked; absences = stood; told = V }
+    judges verdict V = record { plan = plan; files = A.known; opened = opened; found = found; log_there = log_there there; asked = all_asked; absences = stood; told = V }
 
     -- ---- what the replay came to
 

@@ -1,5 +1,5 @@
 -- What an audit comes to.
-use Rattle.std.specs.Prelude.{◌≡◌, ◌≢◌, ◌⊎◌, ℕ, ◌<◌, ◌≤◌, ◌^◌, List, [], ◌∷◌, ◌++◌, length, slice_get, Option, Some, None, Result, Ok, Err, IsTrue}
+use Rattle.std.specs.Prelude.{◌≡◌, ◌≢◌, ◌⊎◌, ℕ, ◌<◌, ◌≤◌, ◌^◌, List, [], ◌∷◌, ◌++◌, length, slice_get, Option, Some, None, Result, Ok, Err, IsSome, IsTrue}
 use Rattle.omx_types.specs.declared.fault.AuditWhy.{AuditWhy}
 use Rattle.omx_types.specs.declared.fault.Fault.{Fault}
 use Rattle.omx_types.specs.declared.fault.Fault.TheVariants as Faults
@@ -29,9 +29,10 @@ use Rattle.play_plan_laws.specs.Assemblies.{IsReady, PlayFiles}
 use Rattle.play_result_laws.specs.Files.{read_by, written_by}
 use Rattle.play_result_laws.specs.Results.{HoldSinks, IsLogOf, IsPlanIn}
 use Rattle.play_files.specs.Asked.{HasAskedFor, read_names, written_names}
+use Rattle.play_files.specs.Left.{HaveHeads}
 use Rattle.play_files.specs.Opening.{HasHead}
 use Rattle.play_course.specs.Outcomes.{WasOpened}
-use Rattle.audit_files.specs.Left.{IsUncompared}
+use Rattle.audit_files.specs.Left.{AreSinksThere, IsUncompared}
 use Rattle.audit_forms.specs.Audited.{No, Verdict, Yes}
 use Rattle.audit_forms.specs.Whole.{IsAudited}
 use Rattle.audit_laws.specs.Played.{IsPlayedBy}
@@ -44,11 +45,22 @@ use Rattle.run_audit.specs.declared.replaying.Replayed.TheVariants as comes
 abbrev pub HasVerdict : Script → List ℕ → Outside → Verdict → Type 0
 HasVerdict script log old verdict = IsTrue old.tells → (name text : List ℕ) → old.file name ≡ Some text → IsPlayScript name log text script → IsAudited name log old verdict
 
+-- where they are told, the plan's heads are those of the sources' files, and the file of each sink is there
+pub record AreFound (old : Outside) (plan : PlanValue) (files : PlayFiles) : Type 0 where
+  pub sources : HaveHeads old plan.parts (length plan.parts) files.heads
+  pub sinks : AreSinksThere old plan.parts (length plan.parts)
+
+-- so is the log
+abbrev pub IsLogThere : List ℕ → Outside → Type 0
+IsLogThere log old = IsTrue old.tells → IsSome (old.file log)
+
 -- All files were opened, and the log was read, the last of all; no absence was counted.
 pub record IsJudged (script : Script) (log : List ℕ) (old new : Outside) (verdict : Verdict) : Type 0 where
   pub plan : PlanValue
   pub files : PlayFiles
   pub opened : WasOpened script old plan files
+  pub found : AreFound old plan files
+  pub log_there : IsLogThere log old
   pub asked : HasAskedFor old new ((read_names plan.parts ++ written_names plan.parts) ++ log ∷ [])
   pub absences : AbsencesStand old new
   pub told : HasVerdict script log old verdict
@@ -60,7 +72,7 @@ abbrev pub IsLogFault : List ℕ → Outside → Outside → Fault → Type 0
 IsLogFault log old new Faults.OutOfMemory = Unit {0}
 IsLogFault log old new Faults.ReadFault = Rose old.read_faults new.read_faults
 IsLogFault log old new (Faults.Absent which) = (which ≡ Log) × Rose old.absences new.absences × (old.file log ≡ None)
-IsLogFault log old new (Faults.Short which at size) = (which ≡ Log) × IsShort log old at size
+IsLogFault log old new (Faults.Short which at size) = (which ≡ Log) × IsShort log old at size × IsLogThere log old
 IsLogFault log old new other = ⊥
 
 -- the file of the component in that line gave nothing below its size: a source's behind its head, or a sink's
@@ -131,6 +143,7 @@ pub record IsLogUnread (script : Script) (log : List ℕ) (old new : Outside) (f
   pub plan : PlanValue
   pub files : PlayFiles
   pub opened : WasOpened script old plan files
+  pub found : AreFound old plan files
   pub asked : fault ≢ Faults.OutOfMemory → HasAskedFor old new ((read_names plan.parts ++ written_names plan.parts) ++ log ∷ [])
   pub unabsent : TellsAbsence Faults.Absent old new fault
   pub why : IsLogFault log old new fault
@@ -140,6 +153,8 @@ pub record IsBrokenOff (script : Script) (log : List ℕ) (old new : Outside) (f
   pub plan : PlanValue
   pub files : PlayFiles
   pub opened : WasOpened script old plan files
+  pub found : AreFound old plan files
+  pub log_there : IsLogThere log old
   pub asked : HasAskedFor old new ((read_names plan.parts ++ written_names plan.parts) ++ log ∷ [])
   pub absences : AbsencesStand old new
   pub why : IsStepFault plan.parts old new fault

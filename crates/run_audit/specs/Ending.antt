@@ -8,7 +8,7 @@ use Rattle.play_log.specs.Scenes.{HaveOwnNames, scene_of}
 use Rattle.play_result_laws.specs.Worlds.{IsOpening}
 use Rattle.audio_parts.specs.declared.part_file.PartFile.{PartFile}
 use Rattle.audio_parts.specs.declared.part_file.PartFile.TheVariants as files
-use Rattle.compared_files.specs.Comparing.{ComparingValue, given_by, told_by}
+use Rattle.compared_files.specs.Comparing.{ComparingValue, IsGivenToEnd, given_by, told_by}
 use Rattle.audit_order.specs.Steps.{IsComplete}
 use Rattle.audit_forms.specs.Audited.{Case, IsResting, Moment}
 use Rattle.audit_forms.specs.Whole.{start_at}
@@ -53,3 +53,13 @@ module _ {S : Type 0} (told : S → Option (List ℕ)) where
   IsUngiven None = ⊥
   IsUngiven (Some (files.From src format frames)) = ⊥
   IsUngiven (Some (files.To snk frames)) = WhereTold (told snk.src) (λ known. given_by known snk ≡ known → ⊥)
+
+module _ {S : Type 0} (told : S → Option (List ℕ)) (ends : S → Option ℕ) where
+  -- a file with which a sink is compared gives all its bytes
+  abbrev pub GivesAll : Option (PartFile S (ComparingValue S)) → Type 0
+  GivesAll None = Unit {0}
+  GivesAll (Some (files.From src format frames)) = Unit {0}
+  GivesAll (Some (files.To snk frames)) = IsGivenToEnd (told snk.src) (ends snk.src)
+
+  abbrev pub GiveAll : List (Option (PartFile S (ComparingValue S))) → Type 0
+  GiveAll entries = (place : ℕ) (file : Option (PartFile S (ComparingValue S))) → slice_get entries place ≡ Some file → GivesAll file

@@ -13,3 +13,4 @@ pub mod Ending
 pub mod Leaving
 pub mod Replayed
 pub mod Auditing
+pub mod Faults

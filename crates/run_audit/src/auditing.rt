@@ -1,6 +1,7 @@
 //! A log is checked against its script and its files.
 
 ghost use Rattle.std.specs.Prelude.{◌≡◌, ◌<◌, ◌≤◌, ℕ, List, length, slice_get, IfErr, IfOk, OnOk, IsFalse, IsTrue};
+ghost use Rattle.outside_io.specs.Causes.{Rose};
 ghost use Rattle.outside_io.specs.Files.{CountsStand, GoesOn};
 ghost use Rattle.outside_io.specs.Moves.{WhereTold};
 ghost use Rattle.compared_files.specs.Comparing.{HasMet};
@@ -8,6 +9,7 @@ ghost use Rattle.script_lang.specs.PlayScripts.{IsPlayScript};
 ghost use Rattle.audit_forms.specs.Audited.{Yes};
 ghost use Rattle.play_course.specs.Settling.{line_in};
 ghost use Rattle.run_audit.specs.Auditing.{HasMetAt, IsJudged, IsMetBy, IsNoPlayLog, IsNotRun, IsPlayRun, fault_of_met, fault_of_step, fault_of_unread, outcome_of};
+ghost use Rattle.run_audit.specs.Faults.{AreGivenToEnd, Asks, TellsOrMemory};
 
 use crate::replaying::{Replayed, replay};
 use audio_parts::PartFile;
@@ -134,6 +136,9 @@ pub fn audit<M: Media>(
     ensures yes { IfOk result (λ acts. IsJudged script.now log.now (M.outside media.old) (M.outside media.new) (Yes acts)) }
     ensures stand { OnOk result (CountsStand (M.outside media.old) (M.outside media.new)) }
     ensures other { IfErr result (IsNotRun script.now log.now (M.outside media.old) (M.outside media.new)) }
+    ensures asked { (fault : Fault) → IsTrue (M.outside media.old).tells → (Rose (M.outside media.old).read_faults (M.outside media.new).read_faults → ⊥)
+        → Asks script.now log.now (M.outside media.old) fault → TellsOrMemory result fault }
+    ensures given { IsTrue (M.outside media.old).tells → OnOk result (AreGivenToEnd script.now (M.outside media.old)) }
     ensures played { IfOk result (IsPlayRun script.now log.now (M.outside media.old)) }
     ensures plays { IfErr result (IsNoPlayLog script.now log.now (M.outside media.old)) }
 {

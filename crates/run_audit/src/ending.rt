@@ -11,7 +11,7 @@ ghost use Rattle.play_graph.specs.Making.{AreGone};
 ghost use Rattle.audit_forms.specs.Audited.{Case, Moment};
 ghost use Rattle.run_audit.specs.Opening.{play_sight};
 ghost use Rattle.run_audit.specs.Seeing.{compared};
-ghost use Rattle.run_audit.specs.Ending.{AreWhole, HasCome, HasUnlike, IsAtRest, IsGiven, IsUngiven};
+ghost use Rattle.run_audit.specs.Ending.{AreWhole, GiveAll, GivesAll, HasCome, HasUnlike, IsAtRest, IsGiven, IsUngiven};
 ghost use Rattle.run_audit.specs.Replaying.{IsReplay};
 
 use crate::replay::Replay;
@@ -54,6 +54,7 @@ fn are_loaded(told: &[Progress]) -> bool
 fn is_given<S: Source>(file: &Option<PartFile<S, Comparing<S>>>) -> bool
     ensures yes { result ≡ true → IsGiven S.told file.now }
     ensures no { result ≡ false → IsUngiven S.told file.now }
+    ensures gives { result ≡ true → GivesAll S.told S.ends file.now }
 {
     match file {
         Some(PartFile::To { snk, frames: _ }) => snk.is_whole(),
@@ -66,6 +67,7 @@ fn is_given<S: Source>(file: &Option<PartFile<S, Comparing<S>>>) -> bool
 pub(crate) fn are_whole<S: Source>(files: &[Option<PartFile<S, Comparing<S>>>]) -> bool
     ensures yes { result ≡ true → AreWhole S.told files.now }
     ensures no { result ≡ false → HasUnlike S.told files.now }
+    ensures gives { result ≡ true → GiveAll S.told S.ends files.now }
 {
     for file in files {
         if !is_given(file) {

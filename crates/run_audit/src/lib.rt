@@ -6,6 +6,7 @@ mod answering;
 mod auditing;
 mod ending;
 mod keeping;
+mod laws;
 mod leaving;
 mod opening;
 mod passing;
@@ -18,6 +19,7 @@ mod walking;
 
 pub use answering::{Answered, answer};
 pub use auditing::{AuditFault, audit};
+pub use laws::law_of_every_text;
 pub use replay::{Passed, Replay};
 pub use returning::Back;
 pub use walking::Walked;

@@ -6,7 +6,7 @@ ghost use Rattle.play_graph.specs.Making.{CanMake};
 ghost use Rattle.play_plan_laws.specs.Assemblies.{PlayFiles};
 ghost use Rattle.run_audit.specs.Opening.{play_sight};
 ghost use Rattle.run_audit.specs.Seeing.{compared};
-ghost use Rattle.run_audit.specs.Ending.{AreWhole, HasUnlike};
+ghost use Rattle.run_audit.specs.Ending.{AreWhole, GiveAll, HasUnlike};
 ghost use Rattle.run_audit.specs.Replayed.{AreGiven, FilesComeBack, IsVerdictBy, OnFailure, OnVerdict};
 
 use crate::ending::are_whole;
@@ -33,7 +33,8 @@ pub enum Replayed {
 
 /// At an `end` of that number: the sinks' files decide.
 fn at_end<S: Source>(line: u64, files: &[Option<PartFile<S, Comparing<S>>>]) -> Replayed
-    ensures { ((result ≡ Replayed.Yes (line - 1)) × AreWhole S.told files.now) ⊎ ((result ≡ Replayed.No line AuditWhy.NotEnded) × HasUnlike S.told files.now) }
+    ensures decided { ((result ≡ Replayed.Yes (line - 1)) × AreWhole S.told files.now) ⊎ ((result ≡ Replayed.No line AuditWhy.NotEnded) × HasUnlike S.told files.now) }
+    ensures gives { (acts : ℕ) → result ≡ Replayed.Yes acts → GiveAll S.told S.ends files.now }
 {
     if are_whole(files) {
         Replayed::Yes(line.saturating_sub(1))
@@ -66,6 +67,7 @@ pub(crate) fn replay<S: Source>(
         → OnVerdict result (IsVerdictBy plan given sinks text.now) }
     ensures many { length files.new ≡ length files.old }
     ensures files { FilesComeBack (play_sight S.Source) plan files.old files.new }
+    ensures gives { (acts : ℕ) → result ≡ Replayed.Yes acts → GiveAll S.told S.ends files.new }
     ensures failed { OnFailure (play_sight S.Source) plan files.old files.new result }
 {
     let mut replay = match Replay::new(alloc, plan, files) {

@@ -1,5 +1,6 @@
-use Rattle.std.proofs.Common.{◌≡◌, ◌≤◌, length, inl, inr, refl, sym, ◌∙◌, arith}
+use Rattle.std.proofs.Common.{◌≡◌, ◌≤◌, List, length, inl, inr, refl, sym, ◌∙◌, subst, arith}
 use Rattle.std.proofs.lemmas.Option.{slice_get_within}
+use Rattle.script_lang.specs.declared.play_line.PartLine.{PartLine}
 use Rattle.script_lang.specs.declared.script.Script.{Script}
 use Rattle.script_lang.specs.declared.script.Script.TheVariants.{Play, Trace}
 use Rattle.play_forms.specs.declared.plan_fault.PlanFault.TheVariants.{OutOfMemory}
@@ -10,12 +11,14 @@ use Rattle.play_plan_laws.proofs.Scripts.{scripted}
 use Rattle.play_files.proofs.Closings.{then}
 use Rattle.play_files.proofs.Fronts.{still, still_then}
 use Rattle.play_files.proofs.Stopped.{have_heads, source_refused_later}
+use Rattle.play_files.specs.Left.{HaveHeads}
 use Rattle.play_files.specs.Seen.{file_seen}
 use Rattle.audit_files.specs.Compared.{compared}
 use Rattle.audit_files.specs.Left.{IsUncompared}
 use Rattle.audit_files.proofs.Closed.{closed_still, compared_each, read_each}
 use Rattle.audit_files.proofs.Ready.{all_compared}
 use Rattle.audit_files.proofs.Refusals.{known_fault_later}
+use Rattle.audit_files.proofs.Writing.{sinks_there}
 use Rattle.audit_files.proofs.opening.open_compared.Goals as goal
 
 -- want of memory for a script that has a plan
@@ -82,6 +85,8 @@ returns-in-Err-compare_planned-clause-unopened g c =
             inr (inr (record {
               plan = plan;
               heads = heads;
+              have = subst (λ (ps : List PartLine). HaveHeads old ps (length ps) heads) (G.fitted).parts
+                  (have_heads (file_seen g.M.Src.Source (compared g.M.Src.Source)) G.before old plan.parts (length plan.parts) heads G.read (omega arith));
               fitted = G.fitted;
               fit = G.fit;
               goes_on = then old mid new refused.goes_on S.goes_on;
@@ -93,6 +98,7 @@ returns-in-Err-compare_planned-clause-unopened g c =
               there = (A.met).there;
               name = (A.met).name;
               writes = (A.met).writes;
+              before = sinks_there g.M.Src.Source old plan.parts plan.frames A.place G.before files G.have;
               why = known_fault_later (A.met).part.line (A.met).name old mid new fault S refused.why;
               asked = λ n. c.close_compared.ensures.openings ∙ A.asked n;
             }))

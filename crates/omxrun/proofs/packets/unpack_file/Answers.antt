@@ -1,4 +1,5 @@
 use Rattle.std.proofs.Common.{◌≡◌, ℕ, List, Some, Result, IfErr, IsTrue, sym, subst, ◌∙◌}
+use Rattle.std.proofs.lemmas.Result.{err_from_is_err_and}
 use Rattle.outside_io.proofs.Closed.{told_value}
 use Rattle.omx_types.specs.declared.fault.Fault.{Fault}
 use Rattle.omxrun.specs.Packets.{UnpacksTo, StoppedUnpacking}
@@ -7,31 +8,32 @@ use Rattle.omxrun.proofs.Moves.{IsCounted, IsShut, IsShutAlone, RanAlone, unpack
 use Rattle.omxrun.proofs.Turns.{IsMoved, HasMoveReason, turned-outcome, unopened-outcome}
 use Rattle.omxrun.proofs.packets.unpack_file.Goals as goal
 
-pub returns-in-Err-clause-outcome : goal.returns-in-Err-clause-outcome
-returns-in-Err-clause-outcome g c =
-    unopened-outcome UnpacksTo StoppedUnpacking c.args.input.now c.args.output.now (g.M.Media.outside c.args.media.now) (g.M.Media.outside c.open_both.new.media) c.in-Err.fault c.open_both.ensures.files c.in-Err.ensures.reason c.in-Err.ensures.alone c.in-Err.ensures.unabsent
+pub returns-in_err-opened-clause-outcome : goal.returns-in_err-opened-clause-outcome
+returns-in_err-opened-clause-outcome g c =
+    let p = err_from_is_err_and c.from_residual.result c.from_residual.ensures.1 in
+    rw (p.1, p.2) (unopened-outcome UnpacksTo StoppedUnpacking c.args.input.now c.args.output.now (g.M.Media.outside c.args.media.now) (g.M.Media.outside c.open_both.new.media) c.in_err-opened.field-0.0 c.open_both.ensures.files c.in_err-opened.ensures.reason c.in_err-opened.ensures.alone c.in_err-opened.ensures.unabsent)
 
-pub returns-in-Ok-clause-outcome : goal.returns-in-Ok-clause-outcome
-returns-in-Ok-clause-outcome g c =
+pub returns-clause-outcome : goal.returns-clause-outcome
+returns-clause-outcome g c =
     let old = g.M.Media.outside c.args.media.now in
     let mid = g.M.Media.outside c.open_both.new.media in
     let new = g.M.Media.outside c.close_both.new.media in
     let told = g.M.Snk.Sink.told c.unpack-unpacked.new.snk in
     let counted : IsCounted c.args.input.now old new _ _ _ _ _ _ _ = record {
-      told_is = c.in-Ok.ensures.told;
-      ends_are = c.in-Ok.ensures.ends;
-      there = c.in-Ok.ensures.there;
-      sized = c.in-Ok.ensures.size;
-      read = read-rose old.read_faults mid.read_faults new.read_faults _ _ c.in-Ok.ensures.unread c.open_both.ensures.goes_on.read_faults c.close_both.ensures.reads;
-      write = write-rose old.write_faults mid.write_faults new.write_faults _ _ c.in-Ok.ensures.unwritten c.open_both.ensures.goes_on.write_faults c.close_both.ensures.writes;
+      told_is = c.in_ok-opened.ensures.told;
+      ends_are = c.in_ok-opened.ensures.ends;
+      there = c.in_ok-opened.ensures.there;
+      sized = c.in_ok-opened.ensures.size;
+      read = read-rose old.read_faults mid.read_faults new.read_faults _ _ c.in_ok-opened.ensures.unread c.open_both.ensures.goes_on.read_faults c.close_both.ensures.reads;
+      write = write-rose old.write_faults mid.write_faults new.write_faults _ _ c.in_ok-opened.ensures.unwritten c.open_both.ensures.goes_on.write_faults c.close_both.ensures.writes;
     } in
     let moved : IsTrue old.tells → (bytes : List ℕ) × (old.file c.args.input.now ≡ Some bytes) × IsMoved UnpacksTo bytes c.unpacked_outcome.result told = λ tells.
-    let held = told_value (old.file c.args.input.now) (c.in-Ok.ensures.there tells) in
-    let there = c.in-Ok.ensures.told ∙ held.1 in (
+    let held = told_value (old.file c.args.input.now) (c.in_ok-opened.ensures.there tells) in
+    let there = c.in_ok-opened.ensures.told ∙ held.1 in (
       held.0,
       held.1,
       subst (λ (r : Result Done Fault). IsMoved UnpacksTo held.0 r told) (sym c.unpacked_outcome.ensures)
-          (unpack-moved held.0 _ told c.unpack-unpacked.result (c.in-Ok.ensures.begun tells) (c.unpack-unpacked.ensures.answer held.0 there) (c.unpack-unpacked.ensures.file held.0 there) (c.unpack-unpacked.ensures.front held.0 there)),
+          (unpack-moved held.0 _ told c.unpack-unpacked.result (c.in_ok-opened.ensures.begun tells) (c.unpack-unpacked.ensures.answer held.0 there) (c.unpack-unpacked.ensures.file held.0 there) (c.unpack-unpacked.ensures.front held.0 there)),
     ) in
     let stopped = subst (λ (r : Result Done Fault). IfErr r (HasMoveReason StoppedUnpacking c.args.input.now old new)) (sym c.unpacked_outcome.ensures)
     (unpack-stopped c.args.input.now old new _ _ _ _ _ _ _ c.unpack-unpacked.result counted c.unpack-unpacked.ensures.cause c.unpack-unpacked.ensures.asks_no_further c.unpack-unpacked.ensures.too_large) in
@@ -42,7 +44,7 @@ returns-in-Ok-clause-outcome g c =
       fault = c.close_both.ensures.fault;
     } in
     let alone : RanAlone c.unpacked_outcome.result (g.M.Src.Source.faults c.unpack-unpacked.new.src) (g.M.Snk.Sink.faults c.unpack-unpacked.new.snk) = subst (λ (r : Result Done Fault). RanAlone r (g.M.Src.Source.faults c.unpack-unpacked.new.src) (g.M.Snk.Sink.faults c.unpack-unpacked.new.snk)) (sym c.unpacked_outcome.ensures)
-    (unpack-alone _ _ _ _ _ _ c.unpack-unpacked.result c.in-Ok.ensures.unread c.in-Ok.ensures.unwritten c.unpack-unpacked.ensures.stand c.unpack-unpacked.ensures.cause) in
+    (unpack-alone _ _ _ _ _ _ c.unpack-unpacked.result c.in_ok-opened.ensures.unread c.in_ok-opened.ensures.unwritten c.unpack-unpacked.ensures.stand c.unpack-unpacked.ensures.cause) in
     let shut_alone : IsShutAlone mid new c.unpacked_outcome.result c.close_both.result (g.M.Src.Source.faults c.unpack-unpacked.new.src) (g.M.Snk.Sink.faults c.unpack-unpacked.new.snk) = record {
       closing = c.close_both.ensures.closing;
       unread = c.close_both.ensures.unread;
@@ -50,6 +52,6 @@ returns-in-Ok-clause-outcome g c =
       closed = c.close_both.ensures.closed;
     } in
     turned-outcome UnpacksTo StoppedUnpacking c.args.input.now c.args.output.now old new c.unpacked_outcome.result c.close_both.result told
-    (closed-of UnpacksTo StoppedUnpacking (g.M.Snk.Sink.name c.unpack-unpacked.new.snk) c.args.input.now c.args.output.now old mid new c.unpacked_outcome.result c.close_both.result told c.open_both.ensures.files c.open_both.ensures.goes_on c.in-Ok.ensures.unabsent c.close_both.ensures.absences
-    (λ tells. c.unpack-unpacked.ensures.keeps_sink.name ∙ c.in-Ok.ensures.name tells) shut moved stopped (shut-alone old mid new c.unpacked_outcome.result c.close_both.result (g.M.Src.Source.faults c.unpack-unpacked.new.src) (g.M.Snk.Sink.faults c.unpack-unpacked.new.snk) c.in-Ok.ensures.stand alone shut_alone)
-    (shut-stand (g.M.Snk.Sink.name c.unpack-unpacked.new.snk) old mid new c.unpacked_outcome.result c.close_both.result told (g.M.Src.Source.faults c.unpack-unpacked.new.src) (g.M.Snk.Sink.faults c.unpack-unpacked.new.snk) c.in-Ok.ensures.stand alone shut shut_alone))
+    (closed-of UnpacksTo StoppedUnpacking (g.M.Snk.Sink.name c.unpack-unpacked.new.snk) c.args.input.now c.args.output.now old mid new c.unpacked_outcome.result c.close_both.result told c.open_both.ensures.files c.open_both.ensures.goes_on c.in_ok-opened.ensures.unabsent c.close_both.ensures.absences
+    (λ tells. c.unpack-unpacked.ensures.keeps_sink.name ∙ c.in_ok-opened.ensures.name tells) shut moved stopped (shut-alone old mid new c.unpacked_outcome.result c.close_both.result (g.M.Src.Source.faults c.unpack-unpacked.new.src) (g.M.Snk.Sink.faults c.unpack-unpacked.new.snk) c.in_ok-opened.ensures.stand alone shut_alone)
+    (shut-stand (g.M.Snk.Sink.name c.unpack-unpacked.new.snk) old mid new c.unpacked_outcome.result c.close_both.result told (g.M.Src.Source.faults c.unpack-unpacked.new.src) (g.M.Snk.Sink.faults c.unpack-unpacked.new.snk) c.in_ok-opened.ensures.stand alone shut shut_alone))

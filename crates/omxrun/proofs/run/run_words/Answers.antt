@@ -1,5 +1,7 @@
 use Rattle.std.proofs.Common.{map, string_bytes, refl}
 use Rattle.omxrun.specs.Words.{to_trace, to_play, to_make, to_clock, to_pack, to_unpack, to_audit, asked_by}
+use Rattle.omxrun.proofs.AuditAsked.{asked_audit}
+use Rattle.omxrun.proofs.AuditCut.{cut_audit}
 use Rattle.omxrun.proofs.AuditEnds.{complete_audit, decided, left_by_play}
 use Rattle.omxrun.proofs.Clocks.{complete_clock, unclocked}
 use Rattle.omxrun.proofs.Commands.{run-asked}
@@ -79,6 +81,12 @@ returns-in-None-clause-decided g c = λ script log verdict words none can is. ab
 
 pub returns-in-None-clause-left_by_play : goal.returns-in-None-clause-left_by_play
 returns-in-None-clause-left_by_play g c = λ script log words none can left. absurd (c.in-None.ensures.none (to_audit script log) words)
+
+pub returns-in-None-clause-asked_audit : goal.returns-in-None-clause-asked_audit
+returns-in-None-clause-asked_audit g c = λ script log fault words none asks. absurd (c.in-None.ensures.none (to_audit script log) words)
+
+pub returns-in-None-clause-cut_audit : goal.returns-in-None-clause-cut_audit
+returns-in-None-clause-cut_audit g c = λ script log acts words none cut yes. absurd (c.in-None.ensures.none (to_audit script log) words)
 
 -- ---- a command
 
@@ -191,3 +199,13 @@ pub returns-in-Some-clause-left_by_play : goal.returns-in-Some-clause-left_by_pl
 returns-in-Some-clause-left_by_play g c = λ script log words none can left.
     let audited = run-asked (map string_bytes c.args.words.now) (to_audit script log) (g.M.Media.outside c.args.media.now) (g.M.Media.outside c.run_command.new.media) (g.O.Sink.told c.args.out.now) (g.O.Sink.told c.run_command.new.out) (g.O.Sink.faults c.args.out.now) (g.O.Sink.faults c.run_command.new.out) c.run_command.result (asked_by c.in-Some.command) c.in-Some.ensures.some c.run_command.ensures.run words in
     left_by_play c.one_play.ensures.same c.one_answer.ensures.same c.law_of_plans.ensures.planned script log (g.M.Media.outside c.args.media.now) (g.M.Media.outside c.run_command.new.media) (g.O.Sink.faults c.args.out.now) (g.O.Sink.faults c.run_command.new.out) none can (g.O.Sink.told c.args.out.now) (g.O.Sink.told c.run_command.new.out) c.run_command.result left audited.0 audited.1 audited.2
+
+pub returns-in-Some-clause-asked_audit : goal.returns-in-Some-clause-asked_audit
+returns-in-Some-clause-asked_audit g c = λ script log fault words none asks.
+    let audited = run-asked (map string_bytes c.args.words.now) (to_audit script log) (g.M.Media.outside c.args.media.now) (g.M.Media.outside c.run_command.new.media) (g.O.Sink.told c.args.out.now) (g.O.Sink.told c.run_command.new.out) (g.O.Sink.faults c.args.out.now) (g.O.Sink.faults c.run_command.new.out) c.run_command.result (asked_by c.in-Some.command) c.in-Some.ensures.some c.run_command.ensures.run words in
+    asked_audit c.one_play.ensures.same script log (g.M.Media.outside c.args.media.now) (g.M.Media.outside c.run_command.new.media) (g.O.Sink.faults c.args.out.now) (g.O.Sink.faults c.run_command.new.out) none fault asks (g.O.Sink.told c.args.out.now) (g.O.Sink.told c.run_command.new.out) c.run_command.result audited.0 audited.1 audited.2
+
+pub returns-in-Some-clause-cut_audit : goal.returns-in-Some-clause-cut_audit
+returns-in-Some-clause-cut_audit g c = λ script log acts words none cut yes.
+    let audited = run-asked (map string_bytes c.args.words.now) (to_audit script log) (g.M.Media.outside c.args.media.now) (g.M.Media.outside c.run_command.new.media) (g.O.Sink.told c.args.out.now) (g.O.Sink.told c.run_command.new.out) (g.O.Sink.faults c.args.out.now) (g.O.Sink.faults c.run_command.new.out) c.run_command.result (asked_by c.in-Some.command) c.in-Some.ensures.some c.run_command.ensures.run words in
+    cut_audit c.one_play.ensures.same script log (g.M.Media.outside c.args.media.now) (g.M.Media.outside c.run_command.new.media) (g.O.Sink.faults c.args.out.now) (g.O.Sink.faults c.run_command.new.out) none cut acts yes (c.law_of_verdicts.ensures.one script log (g.M.Media.outside c.args.media.now)) (g.O.Sink.told c.args.out.now) (g.O.Sink.told c.run_command.new.out) c.run_command.result audited.0 audited.1 audited.2

@@ -14,4 +14,4 @@ returns-in-Ok-clause-traced g c =
     let (outcome, text, traces, printed) = c.trace_script.ensures.traced in
     let stand = on_ok outcome (CountsStand (g.M.Media.outside c.args.media.now) (g.M.Media.outside c.script_in.new.media)) c.in-Ok.ensures.stand in
     let unabsent = none-counted (g.M.Media.outside c.args.media.now) (g.M.Media.outside c.script_in.new.media) outcome c.in-Ok.ensures.unabsent in
-    (outcome, text, record { kept = c.script_in.ensures.kept; unabsent = unabsent; is = inl (c.in-Ok.script, c.in-Ok.ensures.script, traces); stand = stand }, printed)
+    (outcome, text, record { kept = c.script_in.ensures.kept; unabsent = unabsent; is = inl (c.in-Ok.script, c.in-Ok.ensures.script, traces, c.trace_script.ensures.one); stand = stand }, printed)

@@ -22,4 +22,5 @@ returns-in_default g c = record {
   later = c.trace-outcome.ensures.keeps_sink.later;
   stopped = stopped-writing c.args.script.now (g.O.Sink.told c.args.out.now) (g.O.Sink.told c.trace-outcome.new.out) (g.O.Sink.faults c.args.out.now) (g.O.Sink.faults c.trace-outcome.new.out) (g.O.Sink.writing c.args.out.now) (g.O.Sink.writing c.trace-outcome.new.out) c.trace-outcome.result c.in-Err.fault c.in-Err.is c.in_default.not-OutOfMemory c.in-Err.ensures.stopped c.trace-outcome.ensures.writing;
   traced = told-stopped c.args.script.now (g.O.Sink.told c.args.out.now) (g.O.Sink.told c.trace-outcome.new.out) (g.O.Sink.faults c.args.out.now) (g.O.Sink.faults c.trace-outcome.new.out) c.in-Err.fault c.in_default.not-OutOfMemory c.in-Err.ensures.stopped;
+  one = c.trace-outcome.ensures.one;
 }

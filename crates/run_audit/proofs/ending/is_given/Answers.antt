@@ -19,3 +19,16 @@ returns-in-Some-From-clause-yes g c = λ e.
 
 pub returns-in-None-clause-yes : goal.returns-in-None-clause-yes
 returns-in-None-clause-yes g c = λ e. rw c.in-None.is tt
+
+pub returns-in-Some-To-clause-gives : goal.returns-in-Some-To-clause-gives
+returns-in-Some-To-clause-gives g c = λ e.
+    (let f : c.in-Some-To.field-0 ≡ files.To c.in-Some-To.snk c.in-Some-To.field-0-1 = rw c.in-Some-To.is at c.in-Some-To.field-0-is in
+    rw (c.in-Some-To.is, f) (c.is_whole.ensures.given e))
+
+pub returns-in-Some-From-clause-gives : goal.returns-in-Some-From-clause-gives
+returns-in-Some-From-clause-gives g c = λ e.
+    (let f : c.in-Some-From.field-0 ≡ files.From c.in-Some-From.field-0-0 c.in-Some-From.field-0-1 c.in-Some-From.field-0-2 = rw c.in-Some-From.is at c.in-Some-From.field-0-is in
+    rw (c.in-Some-From.is, f) tt)
+
+pub returns-in-None-clause-gives : goal.returns-in-None-clause-gives
+returns-in-None-clause-gives g c = λ e. rw c.in-None.is tt

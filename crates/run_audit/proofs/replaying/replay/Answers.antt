@@ -107,7 +107,7 @@ returns-then-is_at_rest-clause-verdict g c = λ given sinks tells T A.
     let W = c.in-Ended.ensures.walked tells x at begun in
     let C = replays.came g.S.Source c.args.plan r N.plan N.unused c.args.files.now N.opens N.files out tells given sinks A W.0 (W.2).passed (W.2).pass in
     replays.at_rest g.S.Source c.args.plan r N.plan N.unused c.args.files.now N.opens N.files out tells given sinks A T c.in-Ended.line W.0 c.args.text.now C c.walk.new.self (c.in-Ended.ensures.plan ∙ N.plan) W.3 W.4
-    c.take_apart.new.files (c.take_apart.ensures.many ∙ N.many) c.take_apart.ensures.files c.take_apart.ensures.written c.at_end.result c.at_end.ensures (c.if-is_at_rest.ensures.yes refl tells x W.0 C W.3))
+    c.take_apart.new.files (c.take_apart.ensures.many ∙ N.many) c.take_apart.ensures.files c.take_apart.ensures.written c.at_end.result c.at_end.ensures.decided (c.if-is_at_rest.ensures.yes refl tells x W.0 C W.3))
 
 pub returns-then-is_at_rest-clause-files : goal.returns-then-is_at_rest-clause-files
 returns-then-is_at_rest-clause-files g c =
