@@ -1,10 +1,11 @@
-//! Times acts through a board: by one thread beside the same acts on its graph, by four threads beside a std `Mutex` round the graph; and a
-//! look at a state beside a plain load. Figures come only with the word `figures`.
+//! Times acts through a board: by one thread beside the same acts on its graph, by four threads beside a std `Mutex` round the graph; six
+//! acts by one draw of tickets beside six single calls; and a look at a state beside a plain load. Figures come only with the word `figures`.
 #![tactic(auto)]
 
 mod graph;
 mod locked;
 mod looks;
+mod rows;
 mod shared;
 mod stopped;
 
@@ -15,6 +16,7 @@ use stopped::Host;
 fn figures<R: Host + Threads + Sync>(rt: &R) -> io::Result<()> {
     shared::figures(rt)?;
     locked::figures(rt)?;
+    rows::figures(rt)?;
     looks::figures(rt)
 }
 
