@@ -1,6 +1,6 @@
 //! The list of ports, and the place of each in it.
 
-ghost use Rattle.std.specs.Prelude.{◌≡◌, ◌+◌, ◌*◌, ◌<◌, ◌≤◌, ◌++◌, true, filter, length, nat_eq, not, position, slice_get, take, vec_capacity, vec_len, Some, IfSome, OnOk, OnErr, MatchOption};
+ghost use Rattle.std.specs.Prelude.{◌≡◌, ◌+◌, ◌*◌, ◌<◌, ◌≤◌, ◌++◌, true, filter, length, nat_eq, not, position, replicate, slice_get, take, vec_capacity, vec_len, Some, IfSome, OnOk, OnErr, MatchOption};
 ghost use Rattle.il_machine.specs.Headers.{is_away, is_for, same_key};
 ghost use Rattle.port_stock.specs.Conditions.{IsMadeForOwner, has_key};
 ghost use Rattle.port_stock.specs.Rings.{Differ, HasCounted, IsForWhere, IsKnownBy, Recounts, Replaces, is_at, new_ports, port_at, port_keys, recounted, with_number, without_done, without_todo};
@@ -33,7 +33,9 @@ fn told_at(component: u64) -> usize
 
 impl Firsts {
     /// Places that tell nothing: a search begins at the first port.
-    pub fn new() -> Firsts {
+    pub fn new() -> Firsts
+        ensures { result.places ≡ replicate 64 0 }
+    {
         Firsts { places: [0; TOLD] }
     }
 

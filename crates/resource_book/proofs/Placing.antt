@@ -16,24 +16,24 @@ is_other c r = not (is_of c r)
 -- ---- two components' numbers
 
 -- what the tests say of a row of a lesser component, of the component itself, and of a greater one
-record Lesser (c : ℕ) (r : Row) : Type 0 where
-  of : nat_eq r.component c ≡ false
-  below : nat_lt r.component c ≡ true
-  above : nat_lt c r.component ≡ false
+pub record Lesser (c : ℕ) (r : Row) : Type 0 where
+  pub of : nat_eq r.component c ≡ false
+  pub below : nat_lt r.component c ≡ true
+  pub above : nat_lt c r.component ≡ false
 
-record Same (c : ℕ) (r : Row) : Type 0 where
-  number : c ≡ r.component
-  of : nat_eq r.component c ≡ true
-  below : nat_lt r.component c ≡ false
-  above : nat_lt c r.component ≡ false
+pub record Same (c : ℕ) (r : Row) : Type 0 where
+  pub number : c ≡ r.component
+  pub of : nat_eq r.component c ≡ true
+  pub below : nat_lt r.component c ≡ false
+  pub above : nat_lt c r.component ≡ false
 
-record Greater (c : ℕ) (r : Row) : Type 0 where
-  number : c < r.component
-  of : nat_eq r.component c ≡ false
-  below : nat_lt r.component c ≡ false
-  above : nat_lt c r.component ≡ true
+pub record Greater (c : ℕ) (r : Row) : Type 0 where
+  pub number : c < r.component
+  pub of : nat_eq r.component c ≡ false
+  pub below : nat_lt r.component c ≡ false
+  pub above : nat_lt c r.component ≡ true
 
-compared : (c : ℕ) (r : Row) → Lesser c r ⊎ (Same c r ⊎ Greater c r)
+pub compared : (c : ℕ) (r : Row) → Lesser c r ⊎ (Same c r ⊎ Greater c r)
 compared c r = elim (cases_lt r.component c) [
   | inl less ↦ inl (record { of = ne_eqb r.component c (λ e. omega arith); below = lt-ltb r.component c less; above = le-ltb c r.component (omega arith) })
   | inr from ↦ elim (cases_lt c r.component) [
@@ -59,14 +59,14 @@ AllAbove-append : (c : ℕ) (xs ys : List Row) → AllAbove c xs → AllAbove c 
 AllAbove-append c [] ys first second = second
 AllAbove-append c (x ∷ xs) ys first second = (first.0, AllAbove-append c xs ys first.1 second)
 
-none_below : (c d : ℕ) (rows : List Row) → c ≤ d → AllAbove d rows → filter (is_below c) rows ≡ []
+pub none_below : (c d : ℕ) (rows : List Row) → c ≤ d → AllAbove d rows → filter (is_below c) rows ≡ []
 none_below c d [] h all = refl
 none_below c d (r ∷ rows) h all =
     let above : d < r.component = all.0 in
     let t : nat_lt r.component c ≡ false = le-ltb r.component c (omega arith) in
     rw t (none_below c d rows h all.1)
 
-all_above : (c d : ℕ) (rows : List Row) → c ≤ d → AllAbove d rows → filter (is_above c) rows ≡ rows
+pub all_above : (c d : ℕ) (rows : List Row) → c ≤ d → AllAbove d rows → filter (is_above c) rows ≡ rows
 all_above c d [] h all = refl
 all_above c d (r ∷ rows) h all =
     let above : d < r.component = all.0 in
@@ -82,7 +82,7 @@ above_filtered c (r ∷ rows) = elim (cases_lt c r.component) [
 
 -- ---- where the component's row goes
 
-others_placed : (c : ℕ) (rows : List Row) → AreRising rows → filter (is_other c) rows ≡ filter (is_below c) rows ++ filter (is_above c) rows
+pub others_placed : (c : ℕ) (rows : List Row) → AreRising rows → filter (is_other c) rows ≡ filter (is_below c) rows ++ filter (is_above c) rows
 others_placed c [] rising = refl
 others_placed c (r ∷ rows) rising = elim (compared c r) [
   | inl l ↦ rw (l.of, l.below, l.above) (ap (λ (xs : List Row). r ∷ xs) (others_placed c rows rising.1))
@@ -161,6 +161,9 @@ units_held-with_row r rows rising =
     let mid : List Row = filter is_kept (r ∷ []) in
     let one : units_held mid ≡ units_in r = units_or_none (is_kept r) true r.held r refl refl in
     omega (arith, one, units_split r.component rows rising, sum_by-append units_in low (mid ++ high), sum_by-append units_in mid high)
+
+pub units_at-le : (c : ℕ) (rows : List Row) → AreRising rows → units_in (row_at c rows) ≤ units_held rows
+units_at-le c rows rising = omega (arith, units_split c rows rising)
 
 -- ---- room
 

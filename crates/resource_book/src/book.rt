@@ -1,6 +1,6 @@
 //! The book of a resource: units are asked for and given back, who waits, and who gives its own up.
 
-ghost use Rattle.std.specs.Prelude.{◌≡◌, ◌<◌, ◌≤◌, ◌^◌, true, false, not, length, filter, set, slice_get, Some, MatchBool, option_map, if◌then◌else◌};
+ghost use Rattle.std.specs.Prelude.{◌≡◌, ◌≢◌, ◌<◌, ◌≤◌, ◌^◌, true, false, not, length, filter, set, slice_get, Some, MatchBool, option_map, if◌then◌else◌};
 ghost use Rattle.resource_book.specs.Rows.{units_held, is_returning, is_kept, is_waiter, is_of, is_below, is_before, is_weaker, gives_first, better, first_waiter, weakest, victim, IsFirstToGet, IsFirstToGive, row_at, has_place, with_row, AreRising, component_of, given_back, marked_back, left};
 ghost use Rattle.resource_book.specs.declared.row.Row.{Row as RowOf};
 ghost use Rattle.resource_book.specs.Account.{IsSound};
@@ -24,29 +24,22 @@ pub enum Ask {
 #[derive(Drop)]
 pub struct Book {
     units: u32,
+    /// How many of the units are held.
+    held: u32,
     numbered: u64,
     rows: Rows,
 }
 
 impl Model for Book {
+    ghost use Rattle.std.specs.Prelude.{◌≡◌};
     ghost use Rattle.resource_book.specs.Account.{Account, IsSound};
+    ghost use Rattle.resource_book.specs.Rows.{units_held};
 
     ghost Value = { Account };
 
     ghost view = { λ b. record { units = b.units; rows = b.rows.items; numbered = b.numbered } };
 
-    ghost invariant = { λ b. IsSound (record { units = b.units; rows = b.rows.items; numbered = b.numbered }) };
-}
-
-fn units_held(rows: &[Row]) -> u32
-    requires { units_held rows.now < 2 ^ 32 }
-    ensures { result ≡ units_held rows.now }
-{
-    let mut units = 0;
-    for row in rows {
-        units += row.units();
-    }
-    units
+    ghost invariant = { λ b. IsSound (record { units = b.units; rows = b.rows.items; numbered = b.numbered }) × (b.held ≡ units_held b.rows.items) };
 }
 
 fn units_returning(rows: &[Row]) -> u32
@@ -64,32 +57,38 @@ fn units_returning(rows: &[Row]) -> u32
 
 /// How many rows are of lesser components: the place of the component's own.
 fn place_of(rows: &[Row], component: u64) -> usize
+    requires { AreRising rows.now }
     ensures { result ≡ length (filter (is_below component) rows.now) }
 {
-    rows.iter().filter(|row| row.component < component).count()
+    rows.partition_point(|row| row.component < component)
 }
 
-fn row_at(rows: &[Row], component: u64) -> Row
+/// The component's row, which stands at the place that would be its own, or nowhere.
+fn row_at(rows: &[Row], place: usize, component: u64) -> Row
+    requires rising { AreRising rows.now }
+    requires place { place ≡ length (filter (is_below component) rows.now) }
     ensures { result ≡ row_at component rows.now }
 {
-    for row in rows {
-        if row.component == component {
-            return *row;
-        }
+    match rows.get(place) {
+        Some(row) if row.component == component => *row,
+        _ => Row::blank(component),
     }
-    Row::blank(component)
 }
 
-/// Takes the component's row out.
-fn remove(rows: &mut Rows, component: u64)
+/// Takes the component's row out, if it stands at the place that would be its own.
+fn remove(rows: &mut Rows, place: usize, component: u64)
+    requires rising { AreRising rows.old.items }
+    requires place { place ≡ length (filter (is_below component) rows.old.items) }
     ensures { rows.new.items ≡ filter (λ (row : RowOf). not (is_of component row)) rows.old.items }
 {
-    rows.retain(|row| row.component != component);
+    if place < rows.len() && rows[place].component == component {
+        rows.remove(place);
+    }
 }
 
 /// Puts the row in place of its component's, where that stands at the place, and answers whether it did.
 fn replace_row(rows: &mut [Row], place: usize, row: Row) -> bool
-    ensures { MatchBool result ((old : RowOf) × (slice_get rows.old place ≡ Some old) × (old.component ≡ row.component) × (rows.new ≡ set rows.old place row)) (rows.new ≡ rows.old) }
+    ensures { MatchBool result ((old : RowOf) × (slice_get rows.old place ≡ Some old) × (old.component ≡ row.component) × (rows.new ≡ set rows.old place row)) ((rows.new ≡ rows.old) × ((old : RowOf) → slice_get rows.old place ≡ Some old → old.component ≢ row.component)) }
 {
     if place >= rows.len() || rows[place].component != row.component {
         return false;
@@ -98,22 +97,21 @@ fn replace_row(rows: &mut [Row], place: usize, row: Row) -> bool
     true
 }
 
-/// Puts the row in place of its component's.
-fn place_row(rows: &mut Rows, row: Row)
+/// Puts the row in place of its component's, whose own place that is.
+fn place_row(rows: &mut Rows, place: usize, row: Row)
     requires rising { AreRising rows.old.items }
+    requires place { place ≡ length (filter (is_below row.component) rows.old.items) }
     requires room { is_kept row ≡ true → has_place row.component rows.old.items ≡ true }
     ensures { rows.new.items ≡ with_row row rows.old.items }
 {
     if !row.is_kept() {
-        remove(rows, row.component);
+        remove(rows, place, row.component);
         return;
     }
-    let place = place_of(rows.as_slice(), row.component);
     // Most rows change where they stand.
     if replace_row(rows.as_mut_slice(), place, row) {
         return;
     }
-    remove(rows, row.component);
     rows.insert(place, row);
 }
 
@@ -172,6 +170,7 @@ impl Book {
     {
         Book {
             units,
+            held: 0,
             numbered: 0,
             rows: Rows::new(),
         }
@@ -183,14 +182,15 @@ impl Book {
         ensures covered { units_held self.now.rows ≤ self.now.units }
         ensures small { self.now.units < 2 ^ 32 }
     {
-        self.units - units_held(self.rows.as_slice())
+        self.units - self.held
     }
 
     fn row(&self, component: u64) -> Row
         ensures value { result ≡ row_at component self.now.rows }
         ensures sound { IsSound self.now }
     {
-        row_at(self.rows.as_slice(), component)
+        let rows = self.rows.as_slice();
+        row_at(rows, place_of(rows, component), component)
     }
 
     /// How many waits were numbered.
@@ -213,7 +213,12 @@ impl Book {
         requires covered { units_held (with_row row self.old.rows) ≤ self.old.units }
         ensures { self.new ≡ record self.old { rows = with_row row self.old.rows } }
     {
-        place_row(&mut self.rows, row);
+        let rows = self.rows.as_slice();
+        let place = place_of(rows, row.component);
+        let before = row_at(rows, place, row.component);
+        self.held -= before.units();
+        self.held += row.units();
+        place_row(&mut self.rows, place, row);
     }
 
     /// Grants the component its units if so many are free.
