@@ -66,9 +66,10 @@ read_since size ends start next before mid now (Short at told_size) l stops r c 
 
 -- ---- sources
 
-module _ {S : Type 0} (size : S → ℕ) (told : S → Option (List ℕ)) (ends : S → Option ℕ) (offset faults : S → ℕ) where
-  source_itself : (failed : Bool) (src : S) → SourceStays size told ends offset faults failed src src
+module _ {S : Type 0} (source_name : S → List ℕ) (size : S → ℕ) (told : S → Option (List ℕ)) (ends : S → Option ℕ) (offset faults : S → ℕ) where
+  source_itself : (failed : Bool) (src : S) → SourceStays source_name size told ends offset faults failed src src
   source_itself failed src = record {
+    name = refl;
     size = refl;
     told = refl;
     ends = refl;
@@ -77,9 +78,10 @@ module _ {S : Type 0} (size : S → ℕ) (told : S → Option (List ℕ)) (ends 
     stops = λ unfailed end is. le-max_right end (offset src);
   }
 
-  source_further : (failed failed' : Bool) → StaysUnfailed failed failed' → (a b c : S) → SourceStays size told ends offset faults failed a b
-      → SourceStays size told ends offset faults failed' b c → SourceStays size told ends offset faults failed' a c
+  source_further : (failed failed' : Bool) → StaysUnfailed failed failed' → (a b c : S) → SourceStays source_name size told ends offset faults failed a b
+      → SourceStays source_name size told ends offset faults failed' b c → SourceStays source_name size told ends offset faults failed' a c
   source_further failed failed' stays a b c h i = record {
+    name = i.name ∙ h.name;
     size = i.size ∙ h.size;
     told = i.told ∙ h.told;
     ends = i.ends ∙ h.ends;
@@ -88,13 +90,13 @@ module _ {S : Type 0} (size : S → ℕ) (told : S → Option (List ℕ)) (ends 
     stops = λ unfailed end is. le_trans (i.stops unfailed end (h.ends ∙ is)) (max-le (le-max_left end (offset a)) (h.stops (stays unfailed) end is));
   }
 
-  source_earlier : (failed : Bool) → failed ≡ false → (fault : PartFault) (a b c : S) → SourceStays size told ends offset faults failed a b
+  source_earlier : (failed : Bool) → failed ≡ false → (fault : PartFault) (a b c : S) → SourceStays source_name size told ends offset faults failed a b
       → SourceShows size ends offset faults fault b c → SourceShows size ends offset faults fault a c
   source_earlier failed unfailed fault a b c h i =
       read_since (size a) (ends a) (offset a) (offset b) (faults a) (faults b) (faults c) fault (h.forward unfailed) (h.stops unfailed) h.faults (rw (← h.size, ← h.ends) i)
 
   source_later : (failed : Bool) (fault : PartFault) (a b c : S) → SourceShows size ends offset faults fault a b
-      → SourceStays size told ends offset faults failed b c → SourceShows size ends offset faults fault a c
+      → SourceStays source_name size told ends offset faults failed b c → SourceShows size ends offset faults fault a c
   source_later failed Read a b c h i = le_trans h i.faults
   source_later failed Write a b c h i = h
   source_later failed (Short at told_size) a b c h i = h
@@ -120,20 +122,20 @@ module _ {K : Type 0} (name : K → List ℕ) (faults : K → ℕ) where
 
 -- ---- files
 
-module _ {S K : Type 0} (size : S → ℕ) (told : S → Option (List ℕ)) (ends : S → Option ℕ) (offset faults : S → ℕ) (name : K → List ℕ) (sink_faults : K → ℕ) where
+module _ {S K : Type 0} (source_name : S → List ℕ) (size : S → ℕ) (told : S → Option (List ℕ)) (ends : S → Option ℕ) (offset faults : S → ℕ) (name : K → List ℕ) (sink_faults : K → ℕ) where
   abbrev Stays : Bool → PartFile S K → PartFile S K → Type 0
-  Stays failed = FileStays (SourceStays size told ends offset faults failed) (SinkStays name sink_faults)
+  Stays failed = FileStays (SourceStays source_name size told ends offset faults failed) (SinkStays name sink_faults)
 
   abbrev Shows : PartFault → PartFile S K → PartFile S K → Type 0
   Shows fault = FileShows (SourceShows size ends offset faults fault) (SinkShows sink_faults fault)
 
   file_itself : (failed : Bool) (file : PartFile S K) → Stays failed file file
-  file_itself failed (From src format frames) = (refl, refl, source_itself size told ends offset faults failed src)
+  file_itself failed (From src format frames) = (refl, refl, source_itself source_name size told ends offset faults failed src)
   file_itself failed (To snk frames) = (refl, sink_itself name sink_faults snk)
 
   file_further : (failed failed' : Bool) → StaysUnfailed failed failed' → (a b c : PartFile S K) → Stays failed a b → Stays failed' b c → Stays failed' a c
   file_further failed failed' stays (From a f n) (From b f' n') (From c f'' n'') h i =
-      ((i.0 ∙ h.0), (i.1 ∙ h.1), source_further size told ends offset faults failed failed' stays a b c h.2 i.2)
+      ((i.0 ∙ h.0), (i.1 ∙ h.1), source_further source_name size told ends offset faults failed failed' stays a b c h.2 i.2)
   file_further failed failed' stays (From a f n) (From b f' n') (To c n'') h i = i
   file_further failed failed' stays (From a f n) (To b n') c h i = absurd h
   file_further failed failed' stays (To a n) (From b f' n') c h i = absurd h
@@ -141,7 +143,7 @@ module _ {S K : Type 0} (size : S → ℕ) (told : S → Option (List ℕ)) (end
   file_further failed failed' stays (To a n) (To b n') (To c n'') h i = ((i.0 ∙ h.0), sink_further name sink_faults a b c h.1 i.1)
 
   file_earlier : (failed : Bool) → failed ≡ false → (fault : PartFault) (a b c : PartFile S K) → Stays failed a b → Shows fault b c → Shows fault a c
-  file_earlier failed unfailed fault (From a f n) (From b f' n') (From c f'' n'') h i = source_earlier size told ends offset faults failed unfailed fault a b c h.2 i
+  file_earlier failed unfailed fault (From a f n) (From b f' n') (From c f'' n'') h i = source_earlier source_name size told ends offset faults failed unfailed fault a b c h.2 i
   file_earlier failed unfailed fault (To a n) (To b n') (To c n'') h i = sink_earlier name sink_faults fault a b c h.1 i
   file_earlier failed unfailed fault (From a f n) (To b n') c h i = absurd h
   file_earlier failed unfailed fault (To a n) (From b f' n') c h i = absurd h
@@ -149,7 +151,7 @@ module _ {S K : Type 0} (size : S → ℕ) (told : S → Option (List ℕ)) (end
   file_earlier failed unfailed fault (To a n) (To b n') (From c f'' n'') h i = i
 
   file_later : (failed : Bool) (fault : PartFault) (a b c : PartFile S K) → Shows fault a b → Stays failed b c → Shows fault a c
-  file_later failed fault (From a f n) (From b f' n') (From c f'' n'') h i = source_later size told ends offset faults failed fault a b c h i.2
+  file_later failed fault (From a f n) (From b f' n') (From c f'' n'') h i = source_later source_name size told ends offset faults failed fault a b c h i.2
   file_later failed fault (To a n) (To b n') (To c n'') h i = sink_later name sink_faults fault a b c h i.1
   file_later failed fault (From a f n) (To b n') c h i = absurd h
   file_later failed fault (To a n) (From b f' n') c h i = absurd h
@@ -158,22 +160,22 @@ module _ {S K : Type 0} (size : S → ℕ) (told : S → Option (List ℕ)) (end
 
   -- ---- what a part holds
 
-  pub object_itself : (o : Held S K) → ObjectStays size told ends offset faults name sink_faults o o
+  pub object_itself : (o : Held S K) → ObjectStays source_name size told ends offset faults name sink_faults o o
   object_itself o = ((λ unfailed. unfailed), both_itself (Stays o.failed) (file_itself o.failed) o.file)
 
-  pub object_further : (o p q : Held S K) → ObjectStays size told ends offset faults name sink_faults o p → ObjectStays size told ends offset faults name sink_faults p q
-      → ObjectStays size told ends offset faults name sink_faults o q
+  pub object_further : (o p q : Held S K) → ObjectStays source_name size told ends offset faults name sink_faults o p → ObjectStays source_name size told ends offset faults name sink_faults p q
+      → ObjectStays source_name size told ends offset faults name sink_faults o q
   object_further o p q h i =
       ((λ unfailed. h.0 (i.0 unfailed)), both_further (Stays p.failed) (Stays q.failed) (Stays q.failed) (file_further p.failed q.failed i.0) o.file p.file q.file h.1 i.1)
 
   -- what a fault shows since a step it shows since any earlier time
-  pub shows_earlier : (fault : PartFault) (o p q : Held S K) → ObjectStays size told ends offset faults name sink_faults o p
+  pub shows_earlier : (fault : PartFault) (o p q : Held S K) → ObjectStays source_name size told ends offset faults name sink_faults o p
       → ObjectShows size ends offset faults sink_faults fault p q → ObjectShows size ends offset faults sink_faults fault o q
   shows_earlier fault o p q h i = (h.0 i.0, both_shown (Stays p.failed) (Shows fault) (Shows fault) (file_earlier p.failed i.0 fault) o.file p.file q.file h.1 i.1)
 
   -- and until any later time
   pub shows_later : (fault : PartFault) (o p q : Held S K) → ObjectShows size ends offset faults sink_faults fault o p
-      → ObjectStays size told ends offset faults name sink_faults p q → ObjectShows size ends offset faults sink_faults fault o q
+      → ObjectStays source_name size told ends offset faults name sink_faults p q → ObjectShows size ends offset faults sink_faults fault o q
   shows_later fault o p q h i = (h.0, shown_both (Shows fault) (Stays q.failed) (Shows fault) (file_later q.failed fault) o.file p.file q.file h.1 i.1)
 
   short_since : (at told_size frames : ℕ) (src : S) (format : Format) (o : Option (PartFile S K)) → OnBoth (Shows (Short at told_size)) (Some (From src format frames)) o
@@ -184,7 +186,7 @@ module _ {S K : Type 0} (size : S → ℕ) (told : S → Option (List ℕ)) (end
 
   -- the source of a step that found it short gave nothing there, read from where it stood when it came
   pub short_from_opening : (at told_size frames : ℕ) (src : S) (format : Format) (opened before now : Held S K) → opened.file ≡ Some (From src format frames)
-      → ObjectStays size told ends offset faults name sink_faults opened before → ObjectShows size ends offset faults sink_faults (Short at told_size) before now
+      → ObjectStays source_name size told ends offset faults name sink_faults opened before → ObjectShows size ends offset faults sink_faults (Short at told_size) before now
       → GaveNothing (size src) (ends src) (offset src) at told_size
   short_from_opening at told_size frames src format opened before now is h i =
       short_since at told_size frames src format now.file

@@ -15,9 +15,10 @@ pub record Held (S K : Type 0) : Type 0 where
 
 -- ---- what stays
 
--- A source has the size, the told bytes and the told end that it had, and its count of faults didn't fall. Where no step failed it
+-- A source has the name, the size, the told bytes and the told end that it had, and its count of faults didn't fall. Where no step failed it
 -- moved forward, and read nothing behind its told end.
-pub record SourceStays {S : Type 0} (size_of : S → ℕ) (told_of : S → Option (List ℕ)) (ends_of : S → Option ℕ) (offset_of faults_of : S → ℕ) (failed : Bool) (before now : S) : Type 0 where
+pub record SourceStays {S : Type 0} (name_of : S → List ℕ) (size_of : S → ℕ) (told_of : S → Option (List ℕ)) (ends_of : S → Option ℕ) (offset_of faults_of : S → ℕ) (failed : Bool) (before now : S) : Type 0 where
+  pub name : name_of now ≡ name_of before
   pub size : size_of now ≡ size_of before
   pub told : told_of now ≡ told_of before
   pub ends : ends_of now ≡ ends_of before
@@ -56,11 +57,11 @@ abbrev pub StaysUnfailed : Bool → Bool → Type 0
 StaysUnfailed before now = now ≡ false → before ≡ false
 
 -- a part has no file before and now, or the object that it had
-abbrev pub ObjectStays : {S K : Type 0} → (S → ℕ) → (S → Option (List ℕ)) → (S → Option ℕ) → (S → ℕ) → (S → ℕ) → (K → List ℕ) → (K → ℕ)
+abbrev pub ObjectStays : {S K : Type 0} → (S → List ℕ) → (S → ℕ) → (S → Option (List ℕ)) → (S → Option ℕ) → (S → ℕ) → (S → ℕ) → (K → List ℕ) → (K → ℕ)
     → Held S K → Held S K → Type 0
-ObjectStays size told ends offset faults name sink_faults before now =
+ObjectStays source_name size told ends offset faults name sink_faults before now =
     StaysUnfailed before.failed now.failed
-    × BothOrNone (FileStays (SourceStays size told ends offset faults now.failed) (SinkStays name sink_faults)) before.file now.file
+    × BothOrNone (FileStays (SourceStays source_name size told ends offset faults now.failed) (SinkStays name sink_faults)) before.file now.file
 
 -- ---- what a fault shows
 

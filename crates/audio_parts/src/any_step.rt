@@ -49,7 +49,7 @@ impl<S: Source, K: Sink> Part for AnyPart<S, K> {
 
     ghost has_cause = { λ old new fault. ReadCause (λ it. S.size it.source) (λ it. S.ends it.source) (λ it. it.next) (λ it. S.faults it.source) (read_of old) (read_of new) fault ⊎ WriteCause (λ it. K.faults it.sink) (written_of old) (written_of new) fault };
 
-    ghost keeps = { λ old new. ObjectStays S.size S.told S.ends S.offset S.faults K.name K.faults (held_of old) (held_of new) };
+    ghost keeps = { λ old new. ObjectStays S.name S.size S.told S.ends S.offset S.faults K.name K.faults (held_of old) (held_of new) };
 
     ghost shows = { λ old new fault. ObjectShows S.size S.ends S.offset S.faults K.faults fault (held_of old) (held_of new) };
 

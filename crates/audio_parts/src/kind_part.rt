@@ -105,11 +105,11 @@ impl<S: Source, K: Sink> KindPart for AnyPart<S, K> {
         }
     }
 
-    ghost itself = { λ part. object_itself S.size S.told S.ends S.offset S.faults K.name K.faults (held_of part) };
+    ghost itself = { λ part. object_itself S.name S.size S.told S.ends S.offset S.faults K.name K.faults (held_of part) };
 
-    ghost further = { λ before mid after. object_further S.size S.told S.ends S.offset S.faults K.name K.faults (held_of before) (held_of mid) (held_of after) };
+    ghost further = { λ before mid after. object_further S.name S.size S.told S.ends S.offset S.faults K.name K.faults (held_of before) (held_of mid) (held_of after) };
 
-    ghost earlier = { λ before mid after fault. shows_earlier S.size S.told S.ends S.offset S.faults K.name K.faults fault (held_of before) (held_of mid) (held_of after) };
+    ghost earlier = { λ before mid after fault. shows_earlier S.name S.size S.told S.ends S.offset S.faults K.name K.faults fault (held_of before) (held_of mid) (held_of after) };
 
-    ghost later = { λ before mid after fault. shows_later S.size S.told S.ends S.offset S.faults K.name K.faults fault (held_of before) (held_of mid) (held_of after) };
+    ghost later = { λ before mid after fault. shows_later S.name S.size S.told S.ends S.offset S.faults K.name K.faults fault (held_of before) (held_of mid) (held_of after) };
 }

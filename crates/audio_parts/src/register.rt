@@ -1,5 +1,5 @@
 //! The register of a part: the bytes that came into one step.
-ghost use Rattle.std.specs.Prelude.{◌≡◌, ◌≤◌, true, false, length, take, replicate, vec_len};
+ghost use Rattle.std.specs.Prelude.{◌≡◌, ◌≤◌, true, false, length, take, replicate, vec_len, IfOk};
 ghost use Rattle.audio_parts.specs.Registers.{front_of};
 
 use crate::OutOfMemory;
@@ -16,7 +16,10 @@ pub(crate) struct Register {
 }
 
 impl Register {
-    pub(crate) fn new(alloc: Global) -> Result<Register, OutOfMemory> {
+    /// Nothing came yet.
+    pub(crate) fn new(alloc: Global) -> Result<Register, OutOfMemory>
+        ensures { IfOk result (λ register. register.silent ≡ true) }
+    {
         Ok(Register {
             bytes: vec![in alloc; 0; 8192]?,
             silent: true,

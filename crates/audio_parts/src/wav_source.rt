@@ -201,7 +201,7 @@ impl<S: Source> Part for WavSource<S> {
 
     ghost has_cause = { λ old new. ReadCause (λ it. S.size it.source) (λ it. S.ends it.source) (λ it. it.next) (λ it. S.faults it.source) old.file new.file };
 
-    ghost keeps = { λ old new. StaysUnfailed old.failed new.failed × BothOrNone (ReadStays (SourceStays S.size S.told S.ends S.offset S.faults new.failed)) old.file new.file };
+    ghost keeps = { λ old new. StaysUnfailed old.failed new.failed × BothOrNone (ReadStays (SourceStays S.name S.size S.told S.ends S.offset S.faults new.failed)) old.file new.file };
 
     ghost shows = { λ old new fault. (old.failed ≡ false) × OnBoth (λ before now. SourceShows S.size S.ends S.offset S.faults fault before.source now.source) old.file new.file };
 

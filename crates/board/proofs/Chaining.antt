@@ -30,13 +30,13 @@ module _ {S K C : Type 0} (see : Sight S K C) where
   Faulted fault o p = IsFaulted see.reads see.writes fault o p
 
   further : (o p q : Held S K) → Further o p → Further p q → Further o q
-  further = object_further see.reads.size see.reads.told see.reads.ends see.reads.offset see.reads.faults see.writes.name see.writes.faults
+  further = object_further see.reads.name see.reads.size see.reads.told see.reads.ends see.reads.offset see.reads.faults see.writes.name see.writes.faults
 
   earlier : (fault : PartFault) (o p q : Held S K) → Further o p → Faulted fault p q → Faulted fault o q
-  earlier = shows_earlier see.reads.size see.reads.told see.reads.ends see.reads.offset see.reads.faults see.writes.name see.writes.faults
+  earlier = shows_earlier see.reads.name see.reads.size see.reads.told see.reads.ends see.reads.offset see.reads.faults see.writes.name see.writes.faults
 
   later : (fault : PartFault) (o p q : Held S K) → Faulted fault o p → Further p q → Faulted fault o q
-  later = shows_later see.reads.size see.reads.told see.reads.ends see.reads.offset see.reads.faults see.writes.name see.writes.faults
+  later = shows_later see.reads.name see.reads.size see.reads.told see.reads.ends see.reads.offset see.reads.faults see.writes.name see.writes.faults
 
   -- of parts that failed less is said
   as_failed : (b c : Bool) (o p : Option (PartFile S K)) → Further (held_as b o) (held_as c p) → Further (held_as true o) (held_as true p)
@@ -45,7 +45,7 @@ module _ {S K C : Type 0} (see : Sight S K C) where
   as_failed b c (Some x) None h = absurd h.1
   as_failed b c (Some (From s f n)) (Some (From t g m)) h = (
     λ e. e,
-    (h.1.0, h.1.1, record { size = h.1.2.size; told = h.1.2.told; ends = h.1.2.ends; faults = h.1.2.faults; forward = λ e. absurd cc; stops = λ e. absurd cc }),
+    (h.1.0, h.1.1, record { name = h.1.2.name; size = h.1.2.size; told = h.1.2.told; ends = h.1.2.ends; faults = h.1.2.faults; forward = λ e. absurd cc; stops = λ e. absurd cc }),
   )
   as_failed b c (Some (To s n)) (Some (To t m)) h = (λ e. e, h.1)
   as_failed b c (Some (From s f n)) (Some (To t m)) h = absurd h.1
@@ -168,7 +168,7 @@ module _ {S K C : Type 0} (see : Sight S K C) where
       → All (λ e. brings_file number e.act ≡ false) log → (file : PartFile S K) → files_by files log number ≡ Some file → IsFileOf see (files number) (fault_by number None log) file
   files_from_first number log clients files G A = files_on number (files number) None log clients files none_seen G A (record {
     inside = λ x e. subst (λ (o : Option (PartFile S K)). Further (held_as false (files number)) (held_as false o)) e
-        (object_itself see.reads.size see.reads.told see.reads.ends see.reads.offset see.reads.faults see.writes.name see.writes.faults (held_as false (files number)));
+        (object_itself see.reads.name see.reads.size see.reads.told see.reads.ends see.reads.offset see.reads.faults see.writes.name see.writes.faults (held_as false (files number)));
     outside = λ x e. absurd cc;
     whole = λ none. refl;
   })

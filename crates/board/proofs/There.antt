@@ -60,7 +60,7 @@ module _ {S K C : Type 0} (see : Sight S K C) (number : ℕ) where
   else_kept w a r v file part sound M s t b (inr (f, (x, st, H, e))) = inr (f, (x, st, steps_held w a r v x st sound M s (ap (λ (n : ℕ). returns_work n a r) e ∙ b) H, e))
 
   abbrev Both : Bool → Option (PartFile S K) → Option (PartFile S K) → Type 0
-  Both failed before now = BothOrNone (FileStays (SourceStays see.reads.size see.reads.told see.reads.ends see.reads.offset see.reads.faults failed) (SinkStays see.writes.name see.writes.faults)) before now
+  Both failed before now = BothOrNone (FileStays (SourceStays see.reads.name see.reads.size see.reads.told see.reads.ends see.reads.offset see.reads.faults failed) (SinkStays see.writes.name see.writes.faults)) before now
 
   both_there : (failed : Bool) (o p : Option (PartFile S K)) → Both failed o p → is_some o ≡ true → is_some p ≡ true
   both_there failed None p B t = absurd cc

@@ -59,6 +59,7 @@ abbrev pub bytes_word : Option (List ℕ) → List ℕ
 bytes_word None = []
 bytes_word (Some bytes) = 0 ∷ bytes
 
--- Over its life a sink keeps nothing that is seen but its name, and this one is never closed under it. So its name is what its file tells.
-abbrev pub known_by : Option (List ℕ) → Option ℕ → List ℕ
-known_by told ends = end_word ends ∷ bytes_word told
+-- Over its life a sink keeps nothing that is seen but its name, and this one is never closed under it. So its name is its file's name, with
+-- what that file tells.
+abbrev pub known_by : List ℕ → Option (List ℕ) → Option ℕ → List ℕ
+known_by name told ends = end_word ends ∷ length name ∷ name ++ bytes_word told

@@ -3,8 +3,10 @@
 ghost use Rattle.std.specs.Prelude.{◌≡◌, ℕ, List, Option};
 ghost use Rattle.compared_files.specs.Comparing.{known_by};
 
-/// By what a comparison is known one file is told from another: while the name of the sink stays, so does what its file tells.
+/// By what a comparison is known one file is told from another: while the name of the sink stays, so does its file's name, and what that
+/// file tells.
 pub fn law_of_known_files()
-    ensures bytes { (told other : Option (List ℕ)) (ends more : Option ℕ) → known_by told ends ≡ known_by other more → told ≡ other }
-    ensures ends { (told other : Option (List ℕ)) (ends more : Option ℕ) → known_by told ends ≡ known_by other more → ends ≡ more }
+    ensures names { (name called : List ℕ) (told other : Option (List ℕ)) (ends more : Option ℕ) → known_by name told ends ≡ known_by called other more → name ≡ called }
+    ensures bytes { (name called : List ℕ) (told other : Option (List ℕ)) (ends more : Option ℕ) → known_by name told ends ≡ known_by called other more → told ≡ other }
+    ensures ends { (name called : List ℕ) (told other : Option (List ℕ)) (ends more : Option ℕ) → known_by name told ends ≡ known_by called other more → ends ≡ more }
 {}

@@ -39,6 +39,7 @@ fn is_same(one: &[u8], other: &[u8]) -> bool
 fn next_of<S: Source>(src: &mut S, piece: &[u8]) -> Result<Next, Failed>
     requires { 0 < length piece.now }
     ensures told { S.told src.new ≡ S.told src.old }
+    ensures name { S.name src.new ≡ S.name src.old }
     ensures size { S.size src.new ≡ S.size src.old }
     ensures ends { S.ends src.new ≡ S.ends src.old }
     ensures within { S.offset src.new ≤ S.size src.new }
@@ -94,7 +95,7 @@ impl<S: Source> Comparing<S> {
         ensures some { IfOk result (λ count. 0 < count) }
         ensures taken { IfOk result (λ count. told_by (S.told self.new.src) self.new ≡ append_known (told_by (S.told self.old.src) self.old) (take count piece.now)) }
         ensures kept { OnErr result (told_by (S.told self.new.src) self.new ≡ told_by (S.told self.old.src) self.old) }
-        ensures known { known_by (S.told self.new.src) (S.ends self.new.src) ≡ known_by (S.told self.old.src) (S.ends self.old.src) }
+        ensures known { known_by (S.name self.new.src) (S.told self.new.src) (S.ends self.new.src) ≡ known_by (S.name self.old.src) (S.told self.old.src) (S.ends self.old.src) }
         ensures cause { HasCause self.old.failed self.new.failed result }
     {
         if !self.other.is_empty() {
@@ -136,7 +137,7 @@ impl<S: Source> Comparing<S> {
 impl<S: Source> Sink for Comparing<S> {
     ghost told = { λ x. told_by (S.told x.src) x };
 
-    ghost name = { λ x. known_by (S.told x.src) (S.ends x.src) };
+    ghost name = { λ x. known_by (S.name x.src) (S.told x.src) (S.ends x.src) };
 
     ghost faults = { λ x. x.failed };
 

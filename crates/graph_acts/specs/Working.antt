@@ -83,7 +83,7 @@ module _ {S K C : Type 0} where
 module _ {S K : Type 0} (reads : SourceGhosts S) (writes : SinkGhosts K) where
   -- the object of a part's file is the same, read or written further
   abbrev pub IsFurther : Held S K → Held S K → Type 0
-  IsFurther before now = ObjectStays reads.size reads.told reads.ends reads.offset reads.faults writes.name writes.faults before now
+  IsFurther before now = ObjectStays reads.name reads.size reads.told reads.ends reads.offset reads.faults writes.name writes.faults before now
 
   -- it shows since then that a step answered the fault
   abbrev pub IsFaulted : PartFault → Held S K → Held S K → Type 0

@@ -29,6 +29,8 @@ impl<T> EmptyFile<T> {
 impl<T> Source for EmptyFile<T> {
     ghost told = { λ file. None };
 
+    ghost name = { λ file. [] };
+
     ghost ends = { λ file. None };
 
     ghost size = { λ file. 0 };

@@ -21,7 +21,7 @@ fn moves_whole_files(rt: HostRuntime) -> Result<(), Fail> {
 #[test]
 fn objects_of_memory(rt: HostRuntime) -> Result<(), Fail> {
     let alloc = rt.alloc();
-    let mut source = MemorySource::new(vec![in alloc; 3u8; 5]?);
+    let mut source = MemorySource::new(vec![in alloc; 3u8; 5]?)?;
     let mut sink = MemorySink::new(alloc, 4)?;
     assert_eq!(rt; pump(&mut source, &mut sink), Err(PumpFault::Write));
     assert_eq!(rt; sink.faults(), 1);

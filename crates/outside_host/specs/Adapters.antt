@@ -68,5 +68,6 @@ host_outside m = record {
   write_faults = m.write_faults;
   absences = m.absences;
   openings = None;
+  failed_reads = None;
   failed_writes = None;
 }

@@ -257,6 +257,7 @@ impl<R: Files<File = File> + Eprint> Media for HostMedia<R> {
         ensures files { (host_outside self.new).file ≡ (host_outside self.old).file }
         ensures told { IfOk result (λ src. untold ≡ (host_outside self.old).file name.now) }
         ensures there { IsTrue (host_outside self.old).tells → OnOk result (IsSome ((host_outside self.old).file name.now)) }
+        ensures name { IsTrue (host_outside self.old).tells → IfOk result (λ src. unnamed ≡ name.now) }
         ensures size { WhereTold ((host_outside self.old).file name.now) (λ bytes. IfOk result (λ src. src.size ≡ length bytes)) }
         ensures offset { IfOk result (λ src. src.offset ≡ 0) }
         ensures ends { IfOk result (λ src. endless ≡ (host_outside self.old).ends name.now) }
@@ -268,6 +269,8 @@ impl<R: Files<File = File> + Eprint> Media for HostMedia<R> {
         ensures absences_stay { ¬ (IsErrOf result Refused.Absent) → (host_outside self.new).absences ≡ (host_outside self.old).absences }
         ensures unfailed { IfOk result (λ src. src.faults ≡ 0) }
         ensures asked { ¬ (IsErrOf result Refused.OutOfMemory) → (host_outside self.new).openings ≡ with_name name.now 1 (host_outside self.old).openings }
+        ensures failed_name { IsErrOf result Refused.Failed → (host_outside self.new).failed_reads ≡ with_name name.now 1 (host_outside self.old).failed_reads }
+        ensures none_failed { ¬ (IsErrOf result Refused.Failed) → (host_outside self.new).failed_reads ≡ (host_outside self.old).failed_reads }
         ensures failed_writes { (host_outside self.new).failed_writes ≡ (host_outside self.old).failed_writes }
         ensures write_faults { (host_outside self.new).write_faults ≡ (host_outside self.old).write_faults }
         ensures opened { IfOk result (λ src. IsTrue (has_file src.id (opened_of self.new))) }
@@ -302,6 +305,7 @@ impl<R: Files<File = File> + Eprint> Media for HostMedia<R> {
         ensures asked { ¬ (IsErrOf result Refused.OutOfMemory) → (host_outside self.new).openings ≡ with_name name.now 1 (host_outside self.old).openings }
         ensures failed_name { IsErrOf result Refused.Failed → (host_outside self.new).failed_writes ≡ with_name name.now 1 (host_outside self.old).failed_writes }
         ensures none_failed { ¬ (IsErrOf result Refused.Failed) → (host_outside self.new).failed_writes ≡ (host_outside self.old).failed_writes }
+        ensures failed_reads { (host_outside self.new).failed_reads ≡ (host_outside self.old).failed_reads }
         ensures read_faults { (host_outside self.new).read_faults ≡ (host_outside self.old).read_faults }
         ensures other { IfOk result (λ snk. has_file snk.id (opened_of self.old) ≡ false) }
         ensures opened { IfOk result (λ snk. IsTrue (has_file snk.id (opened_of self.new))) }
@@ -327,6 +331,7 @@ impl<R: Files<File = File> + Eprint> Media for HostMedia<R> {
         ensures absences { (host_outside self.new).absences ≡ (host_outside self.old).absences }
         ensures write_faults { (host_outside self.new).write_faults ≡ (host_outside self.old).write_faults }
         ensures openings { (host_outside self.new).openings ≡ (host_outside self.old).openings }
+        ensures failed_names { (host_outside self.new).failed_reads ≡ with_name unnamed src.faults (host_outside self.old).failed_reads }
         ensures failed_writes { (host_outside self.new).failed_writes ≡ (host_outside self.old).failed_writes }
         ensures added { (host_outside self.new).read_faults ≡ sum_of_counts (host_outside self.old).read_faults src.faults }
         ensures stay { opened_of self.new ≡ opened_of self.old }
@@ -347,6 +352,7 @@ impl<R: Files<File = File> + Eprint> Media for HostMedia<R> {
         ensures added { sum_of_counts (host_outside self.old).write_faults snk.faults ≤ (host_outside self.new).write_faults }
         ensures closed { OnOk result ((host_outside self.new).write_faults ≡ sum_of_counts (host_outside self.old).write_faults snk.faults) }
         ensures openings { (host_outside self.new).openings ≡ (host_outside self.old).openings }
+        ensures failed_reads { (host_outside self.new).failed_reads ≡ (host_outside self.old).failed_reads }
         ensures failed_names { (host_outside self.new).failed_writes ≡ with_name unnamed (failed_with snk.faults result) (host_outside self.old).failed_writes }
         ensures failed { OnErr result (Rose (sum_of_counts (host_outside self.old).write_faults snk.faults) (host_outside self.new).write_faults) }
         ensures stay { opened_of self.new ≡ opened_of self.old }

@@ -85,9 +85,11 @@ impl<F: Read> HostSource<F> {
 }
 
 impl<F: Read + Seek> Source for HostSource<F> {
-    ghost use Rattle.outside_host.specs.Adapters.{endless, source_reader, unasked, untold};
+    ghost use Rattle.outside_host.specs.Adapters.{endless, source_reader, unasked, unnamed, untold};
 
     ghost told = { λ s. untold };
+
+    ghost name = { λ s. unnamed };
 
     ghost ends = { λ s. endless };
 
@@ -115,6 +117,7 @@ impl<F: Read + Seek> Source for HostSource<F> {
         requires { 0 < length buf.old }
         ensures bound { ReadsAtMost result buf.new }
         ensures told { untold ≡ untold }
+        ensures name { unnamed ≡ unnamed }
         ensures ends { endless ≡ endless }
         ensures size { self.new.size ≡ self.old.size }
         ensures offset { IfOk result (λ count. self.new.offset ≡ self.old.offset + count) }
@@ -149,6 +152,7 @@ impl<F: Read + Seek> Source for HostSource<F> {
     fn seek_to(&mut self, to: u64) -> Result<(), Failed>
         requires { to ≤ self.old.size }
         ensures told { untold ≡ untold }
+        ensures name { unnamed ≡ unnamed }
         ensures ends { endless ≡ endless }
         ensures size { self.new.size ≡ self.old.size }
         ensures reached { OnOk result (self.new.offset ≡ to) }

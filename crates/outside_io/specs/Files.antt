@@ -1,6 +1,6 @@
 -- What a media tells, and what its calls do to it.
-use Rattle.std.specs.Prelude.{◌≡◌, ◌≢◌, ℕ, ◌≤◌, Bool, List, ◌++◌, replicate, take, Option, Some, option_map, Result, Ok, Err}
-use Rattle.outside_io.specs.Causes.{sum_of_counts}
+use Rattle.std.specs.Prelude.{◌≡◌, ◌≢◌, ℕ, ◌≤◌, Bool, List, ◌++◌, length, replicate, slice_get, take, Option, Some, option_map, Result, Ok, Err, IsTrue}
+use Rattle.outside_io.specs.Causes.{Rose, sum_of_counts}
 
 pub record Outside : Type 0 where
   -- whether it tells its files
@@ -16,6 +16,9 @@ pub record Outside : Type 0 where
   pub absences : ℕ
   -- the names that it was asked to open, the oldest first; None where it doesn't tell them
   pub openings : Option (List (List ℕ))
+  -- the names of the openings, reads and seeks of sources that failed, the oldest first; None where it doesn't tell them. The
+  -- calls on a source are told when it is closed.
+  pub failed_reads : Option (List (List ℕ))
   -- the names of the openings, writes and closings of sinks that failed, the oldest first; None where it doesn't tell them
   pub failed_writes : Option (List (List ℕ))
 
@@ -26,6 +29,14 @@ with_names more = option_map (λ names. names ++ more)
 -- the same name so many times more
 abbrev pub with_name : List ℕ → ℕ → Option (List (List ℕ)) → Option (List (List ℕ))
 with_name name times = with_names (replicate times name)
+
+-- each of them is one of these
+abbrev pub AreAmong : List (List ℕ) → List (List ℕ) → Type 0
+AreAmong more names = (k : ℕ) (name : List ℕ) → slice_get more k ≡ Some name → (place : ℕ) × (slice_get names place ≡ Some name)
+
+-- some of these names more, and no other
+abbrev pub NamesMore : List (List ℕ) → Option (List (List ℕ)) → Option (List (List ℕ)) → Type 0
+NamesMore names old new = (more : List (List ℕ)) × (1 ≤ length more) × AreAmong more names × (new ≡ with_names more old)
 
 -- how many calls on a sink failed, once it is closed
 abbrev pub failed_with : {E : Type 0} → ℕ → Result (Unit {0}) E → ℕ
@@ -40,6 +51,12 @@ pub record GoesOn (old new : Outside) : Type 0 where
   pub read_faults : old.read_faults ≤ new.read_faults
   pub write_faults : old.write_faults ≤ new.write_faults
   pub absences : old.absences ≤ new.absences
+
+-- A call on a source failed, which had one of these names: the count of failed reads rose, and none but these names were added to those
+-- of failed reads.
+pub record IsFailedRead (names : List (List ℕ)) (old new : Outside) : Type 0 where
+  pub rose : Rose old.read_faults new.read_faults
+  pub named : IsTrue old.tells → NamesMore names old.failed_reads new.failed_reads
 
 -- no count of failed reads or writes rose
 pub record CountsStand (old new : Outside) : Type 0 where

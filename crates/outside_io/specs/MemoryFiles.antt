@@ -36,6 +36,7 @@ memory_outside m = record {
   write_faults = m.write_faults;
   absences = m.absences;
   openings = Some (kept_names m.openings);
+  failed_reads = Some (names m.failed_reads);
   failed_writes = Some (names m.failed_writes);
 }
 

@@ -1,7 +1,7 @@
 -- Why a file was not read or not written whole.
-use Rattle.std.specs.Prelude.{◌≡◌, ◌⊎◌, ℕ, ◌<◌, List, length, Option, None, IsTrue}
+use Rattle.std.specs.Prelude.{◌≡◌, ◌⊎◌, ℕ, ◌<◌, List, [], ◌∷◌, length, Option, None, IsTrue}
 use Rattle.outside_io.specs.Causes.{Rose}
-use Rattle.outside_io.specs.Files.{Outside, IsFrontOf}
+use Rattle.outside_io.specs.Files.{Outside, IsFailedRead, IsFrontOf}
 use Rattle.outside_io.specs.Moves.{WhereTold}
 use Rattle.outside_io.specs.declared.media.Refused.{Refused}
 use Rattle.outside_io.specs.declared.media.Refused.TheVariants.{Absent as NotMade, Failed as NotWritten, OutOfMemory as NoRoom}
@@ -21,7 +21,7 @@ pub record IsShort (name : List ℕ) (old : Outside) (at size : ℕ) : Type 0 wh
 -- why a file of at most `most` bytes was not read whole
 abbrev pub HasReadReason : List ℕ → ℕ → Outside → Outside → Unread → Type 0
 HasReadReason name most old new Absent = Rose old.absences new.absences × (old.file name ≡ None)
-HasReadReason name most old new Failed = Rose old.read_faults new.read_faults
+HasReadReason name most old new Failed = IsFailedRead (name ∷ []) old new
 HasReadReason name most old new (TooLong size) = (most < size) × WhereTold (old.file name) (λ bytes. size ≡ length bytes)
 HasReadReason name most old new (Short at size) = IsShort name old at size
 HasReadReason name most old new OutOfMemory = Unit {0}

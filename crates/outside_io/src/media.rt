@@ -21,7 +21,8 @@ pub enum Refused {
 /// Named files, of which sources and sinks are opened. A media may tell its files: then each source tells its bytes,
 /// and only the closing of a sink changes a told file, namely that of its name. It may also tell the sink names that it
 /// may refuse, and for each name the offset from which on its sources give nothing; both stay the same over all its calls.
-/// It may tell the names that it was asked to open, and those of failed writes, each in the order of the calls.
+/// It may tell the names that it was asked to open, and those of failed reads and of failed writes, each in the order of
+/// the calls.
 /// Counts never fall, and stay at their last value. A call raises only the count
 /// of its own answer, and what is opened has failed in no call yet.
 pub trait Media {
@@ -46,6 +47,7 @@ pub trait Media {
         ensures files { (outside self.new).file ≡ (outside self.old).file }
         ensures told { IfOk result (λ src. Self.Src.told src ≡ (outside self.old).file name.now) }
         ensures there { IsTrue (outside self.old).tells → OnOk result (IsSome ((outside self.old).file name.now)) }
+        ensures name { IsTrue (outside self.old).tells → IfOk result (λ src. Self.Src.name src ≡ name.now) }
         ensures size { WhereTold ((outside self.old).file name.now) (λ bytes. IfOk result (λ src. Self.Src.size src ≡ length bytes)) }
         ensures offset { IfOk result (λ src. Self.Src.offset src ≡ 0) }
         ensures ends { IfOk result (λ src. Self.Src.ends src ≡ (outside self.old).ends name.now) }
@@ -57,6 +59,8 @@ pub trait Media {
         ensures absences_stay { ¬ (IsErrOf result Refused.Absent) → (outside self.new).absences ≡ (outside self.old).absences }
         ensures unfailed { IfOk result (λ src. Self.Src.faults src ≡ 0) }
         ensures asked { ¬ (IsErrOf result Refused.OutOfMemory) → (outside self.new).openings ≡ with_name name.now 1 (outside self.old).openings }
+        ensures failed_name { IsErrOf result Refused.Failed → (outside self.new).failed_reads ≡ with_name name.now 1 (outside self.old).failed_reads }
+        ensures none_failed { ¬ (IsErrOf result Refused.Failed) → (outside self.new).failed_reads ≡ (outside self.old).failed_reads }
         ensures failed_writes { (outside self.new).failed_writes ≡ (outside self.old).failed_writes }
         ensures write_faults { (outside self.new).write_faults ≡ (outside self.old).write_faults };
 
@@ -75,6 +79,7 @@ pub trait Media {
         ensures asked { ¬ (IsErrOf result Refused.OutOfMemory) → (outside self.new).openings ≡ with_name name.now 1 (outside self.old).openings }
         ensures failed_name { IsErrOf result Refused.Failed → (outside self.new).failed_writes ≡ with_name name.now 1 (outside self.old).failed_writes }
         ensures none_failed { ¬ (IsErrOf result Refused.Failed) → (outside self.new).failed_writes ≡ (outside self.old).failed_writes }
+        ensures failed_reads { (outside self.new).failed_reads ≡ (outside self.old).failed_reads }
         ensures read_faults { (outside self.new).read_faults ≡ (outside self.old).read_faults };
 
     fn close_source(&mut self, src: Self::Src)
@@ -83,6 +88,7 @@ pub trait Media {
         ensures absences { (outside self.new).absences ≡ (outside self.old).absences }
         ensures write_faults { (outside self.new).write_faults ≡ (outside self.old).write_faults }
         ensures openings { (outside self.new).openings ≡ (outside self.old).openings }
+        ensures failed_names { (outside self.new).failed_reads ≡ with_name (Self.Src.name src) (Self.Src.faults src) (outside self.old).failed_reads }
         ensures failed_writes { (outside self.new).failed_writes ≡ (outside self.old).failed_writes }
         ensures added { (outside self.new).read_faults ≡ sum_of_counts (outside self.old).read_faults (Self.Src.faults src) };
 
@@ -96,6 +102,7 @@ pub trait Media {
         ensures added { sum_of_counts (outside self.old).write_faults (Self.Snk.faults snk) ≤ (outside self.new).write_faults }
         ensures closed { OnOk result ((outside self.new).write_faults ≡ sum_of_counts (outside self.old).write_faults (Self.Snk.faults snk)) }
         ensures openings { (outside self.new).openings ≡ (outside self.old).openings }
+        ensures failed_reads { (outside self.new).failed_reads ≡ (outside self.old).failed_reads }
         ensures failed_names { (outside self.new).failed_writes ≡ with_name (Self.Snk.name snk) (failed_with (Self.Snk.faults snk) result) (outside self.old).failed_writes }
         ensures failed { OnErr result (Rose (sum_of_counts (outside self.old).write_faults (Self.Snk.faults snk)) (outside self.new).write_faults) };
 }

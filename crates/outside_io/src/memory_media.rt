@@ -25,6 +25,7 @@ pub struct MemoryMedia {
     write_faults: u64,
     absences: u64,
     openings: Vec<String>,
+    failed_reads: Option<Box<Named>>,
     failed_writes: Option<Box<Named>>,
 }
 
@@ -65,6 +66,7 @@ impl MemoryMedia {
             write_faults: 0,
             absences: 0,
             openings: Vec::new(alloc),
+            failed_reads: None,
             failed_writes: None,
         })
     }
@@ -78,7 +80,7 @@ impl MemoryMedia {
 }
 
 impl Media for MemoryMedia {
-    ghost use Rattle.outside_io.specs.Memory.{source_bytes, source_faults, source_offset, source_ends, sink_bytes, sink_name, sink_faults};
+    ghost use Rattle.outside_io.specs.Memory.{source_bytes, source_name, source_faults, source_offset, source_ends, sink_bytes, sink_name, sink_faults};
     ghost use Rattle.outside_io.specs.MemoryFiles.{memory_outside, OpensSource, OpensSink, ClosesSource, ClosesSink};
 
     type Src = MemorySource;
@@ -104,6 +106,7 @@ impl Media for MemoryMedia {
         ensures files { (memory_outside self.new).file ≡ (memory_outside self.old).file }
         ensures told { IfOk result (λ src. Some (source_bytes src) ≡ (memory_outside self.old).file name.now) }
         ensures there { IsTrue (memory_outside self.old).tells → OnOk result (IsSome ((memory_outside self.old).file name.now)) }
+        ensures name { IsTrue (memory_outside self.old).tells → IfOk result (λ src. source_name src ≡ name.now) }
         ensures size { WhereTold ((memory_outside self.old).file name.now) (λ bytes. IfOk result (λ src. length (source_bytes src) ≡ length bytes)) }
         ensures offset { IfOk result (λ src. source_offset src ≡ 0) }
         ensures ends { IfOk result (λ src. Some (source_ends src) ≡ (memory_outside self.old).ends name.now) }
@@ -115,14 +118,20 @@ impl Media for MemoryMedia {
         ensures absences_stay { ¬ (IsErrOf result Refused.Absent) → (memory_outside self.new).absences ≡ (memory_outside self.old).absences }
         ensures unfailed { IfOk result (λ src. source_faults src ≡ 0) }
         ensures asked { ¬ (IsErrOf result Refused.OutOfMemory) → (memory_outside self.new).openings ≡ with_name name.now 1 (memory_outside self.old).openings }
+        ensures failed_name { IsErrOf result Refused.Failed → (memory_outside self.new).failed_reads ≡ with_name name.now 1 (memory_outside self.old).failed_reads }
+        ensures none_failed { ¬ (IsErrOf result Refused.Failed) → (memory_outside self.new).failed_reads ≡ (memory_outside self.old).failed_reads }
         ensures failed_writes { (memory_outside self.new).failed_writes ≡ (memory_outside self.old).failed_writes }
         ensures write_faults { (memory_outside self.new).write_faults ≡ (memory_outside self.old).write_faults }
         ensures exactly { OpensSource name.now self.old self.new result }
     {
+        let Ok(failures) = of_name(alloc, name) else {
+            return Err(Refused::OutOfMemory);
+        };
         let Ok(()) = keep(alloc, &mut self.openings, name) else {
             return Err(Refused::OutOfMemory);
         };
         if Planned::call(&mut self.plans, FailKind::OpenSource, name) {
+            put(&mut self.failed_reads, failures, 1);
             self.read_faults = self.read_faults.saturating_add(1);
             return Err(Refused::Failed);
         }
@@ -130,7 +139,7 @@ impl Media for MemoryMedia {
             self.absences = self.absences.saturating_add(1);
             return Err(Refused::Absent);
         };
-        match MemorySource::planned(alloc, name, bytes, &self.plans) {
+        match MemorySource::planned(alloc, name, bytes, &self.plans, failures) {
             Ok(source) => Ok(source),
             Err(_) => Err(Refused::OutOfMemory),
         }
@@ -151,6 +160,7 @@ impl Media for MemoryMedia {
         ensures asked { ¬ (IsErrOf result Refused.OutOfMemory) → (memory_outside self.new).openings ≡ with_name name.now 1 (memory_outside self.old).openings }
         ensures failed_name { IsErrOf result Refused.Failed → (memory_outside self.new).failed_writes ≡ with_name name.now 1 (memory_outside self.old).failed_writes }
         ensures none_failed { ¬ (IsErrOf result Refused.Failed) → (memory_outside self.new).failed_writes ≡ (memory_outside self.old).failed_writes }
+        ensures failed_reads { (memory_outside self.new).failed_reads ≡ (memory_outside self.old).failed_reads }
         ensures read_faults { (memory_outside self.new).read_faults ≡ (memory_outside self.old).read_faults }
         ensures exactly { OpensSink name.now self.old self.new result }
     {
@@ -183,6 +193,7 @@ impl Media for MemoryMedia {
         ensures absences { (memory_outside self.new).absences ≡ (memory_outside self.old).absences }
         ensures write_faults { (memory_outside self.new).write_faults ≡ (memory_outside self.old).write_faults }
         ensures openings { (memory_outside self.new).openings ≡ (memory_outside self.old).openings }
+        ensures failed_names { (memory_outside self.new).failed_reads ≡ with_name (source_name src) (source_faults src) (memory_outside self.old).failed_reads }
         ensures failed_writes { (memory_outside self.new).failed_writes ≡ (memory_outside self.old).failed_writes }
         ensures added { (memory_outside self.new).read_faults ≡ sum_of_counts (memory_outside self.old).read_faults (source_faults src) }
         ensures exactly { ClosesSource src self.old self.new }
@@ -191,6 +202,7 @@ impl Media for MemoryMedia {
         let name = src.name.as_str();
         Planned::count(&mut self.plans, FailKind::Read, name, src.reads.made);
         Planned::count(&mut self.plans, FailKind::Seek, name, src.seeks.made);
+        put(&mut self.failed_reads, src.failures, src.faults);
     }
 
     fn close_sink(&mut self, snk: MemorySink) -> Result<(), Failed>
@@ -203,6 +215,7 @@ impl Media for MemoryMedia {
         ensures added { sum_of_counts (memory_outside self.old).write_faults (sink_faults snk) ≤ (memory_outside self.new).write_faults }
         ensures closed { OnOk result ((memory_outside self.new).write_faults ≡ sum_of_counts (memory_outside self.old).write_faults (sink_faults snk)) }
         ensures openings { (memory_outside self.new).openings ≡ (memory_outside self.old).openings }
+        ensures failed_reads { (memory_outside self.new).failed_reads ≡ (memory_outside self.old).failed_reads }
         ensures failed_names { (memory_outside self.new).failed_writes ≡ with_name (sink_name snk) (failed_with (sink_faults snk) result) (memory_outside self.old).failed_writes }
         ensures failed { OnErr result (Rose (sum_of_counts (memory_outside self.old).write_faults (sink_faults snk)) (memory_outside self.new).write_faults) }
         ensures exactly { ClosesSink snk self.old self.new result }

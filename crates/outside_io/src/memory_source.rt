@@ -1,21 +1,24 @@
 //! A source over bytes in memory, whose reads and seeks may be set to fail, and which may end early.
 
 ghost use Rattle.std.specs.Io.{ReadsAtMost};
-ghost use Rattle.std.specs.Prelude.{◌≡◌, ◌+◌, ◌<◌, ◌≤◌, max, min, length, take, drop, vec_len, [], Some, IfOk, OnOk};
+ghost use Rattle.std.specs.Prelude.{◌≡◌, ◌+◌, ◌<◌, ◌≤◌, max, min, length, take, drop, string_bytes, vec_len, [], Some, IfOk, OnOk};
 ghost use Rattle.outside_io.specs.Asking.{asked_up_to};
 ghost use Rattle.outside_io.specs.Causes.{HasCause};
 ghost use Rattle.outside_io.specs.Moves.{WhereTold};
+ghost use Rattle.outside_io.specs.Named.{name_in};
 
 use crate::calls::Calls;
 use crate::fails::FailKind;
+use crate::named::{Named, of_name};
 use crate::plans::Planned;
 use crate::{Failed, OutOfMemory, Source};
 use std::alloc::Global;
 
-/// A source over bytes in memory.
+/// A source over bytes in memory. The place of its failures is reserved, so reading and closing take no memory.
 #[derive(Drop)]
 pub struct MemorySource {
     pub(crate) name: String,
+    pub(crate) failures: Box<Named>,
     bytes: Vec<u8>,
     offset: usize,
     end: u64,
@@ -24,6 +27,7 @@ pub struct MemorySource {
     pub(crate) seeks: Calls,
     pub(crate) faults: u64,
     ghost within: { offset ≤ vec_len bytes },
+    ghost named: { name_in failures ≡ string_bytes name },
 }
 
 impl MemorySource {
@@ -31,18 +35,19 @@ impl MemorySource {
     ghost use Rattle.outside_io.specs.MemoryFiles.{IsNewSource};
 
     /// A source that stands at offset 0, never fails and gives all its bytes.
-    pub fn new(bytes: Vec<u8>) -> MemorySource
-        ensures bytes { source_bytes result ≡ bytes.items }
-        ensures offset { source_offset result ≡ 0 }
-        ensures ends { length bytes.items ≤ source_ends result }
-        ensures asked { source_asked result ≡ 0 }
-        ensures faults { source_faults result ≡ 0 }
-        ensures no_read_fails { (source_reads result).due.items ≡ [] }
-        ensures no_seek_fails { (source_seeks result).due.items ≡ [] }
+    pub fn new(bytes: Vec<u8>) -> Result<MemorySource, OutOfMemory>
+        ensures bytes { IfOk result (λ source. source_bytes source ≡ bytes.items) }
+        ensures offset { IfOk result (λ source. source_offset source ≡ 0) }
+        ensures ends { IfOk result (λ source. length bytes.items ≤ source_ends source) }
+        ensures asked { IfOk result (λ source. source_asked source ≡ 0) }
+        ensures faults { IfOk result (λ source. source_faults source ≡ 0) }
+        ensures no_read_fails { IfOk result (λ source. (source_reads source).due.items ≡ []) }
+        ensures no_seek_fails { IfOk result (λ source. (source_seeks source).due.items ≡ []) }
     {
         let alloc = *bytes.allocator();
-        MemorySource {
+        Ok(MemorySource {
             name: String::new(alloc),
+            failures: of_name(alloc, "")?,
             bytes,
             offset: 0,
             end: u64::MAX,
@@ -50,20 +55,23 @@ impl MemorySource {
             reads: Calls::sound(alloc),
             seeks: Calls::sound(alloc),
             faults: 0,
-        }
+        })
     }
 
-    /// A source of the file of that name.
+    /// A source of the file of that name, with an element for its failures.
     pub(crate) fn planned(
         alloc: Global,
         name: &str,
         bytes: &[u8],
         plans: &[Planned],
+        failures: Box<Named>,
     ) -> Result<MemorySource, OutOfMemory>
+        requires { name_in failures ≡ name.now }
         ensures { IfOk result (IsNewSource name.now bytes.now plans.now) }
     {
         Ok(MemorySource {
             name: String::from_str(alloc, name)?,
+            failures,
             bytes: bytes.to_vec(alloc)?,
             offset: 0,
             end: Planned::end(plans, name),
@@ -76,9 +84,11 @@ impl MemorySource {
 }
 
 impl Source for MemorySource {
-    ghost use Rattle.outside_io.specs.Memory.{source_bytes, source_offset, source_ends, source_asked, source_faults, Reads, Seeks};
+    ghost use Rattle.outside_io.specs.Memory.{source_bytes, source_name, source_offset, source_ends, source_asked, source_faults, Reads, Seeks};
 
     ghost told = { λ s. Some (source_bytes s) };
+
+    ghost name = { source_name };
 
     ghost ends = { λ s. Some (source_ends s) };
 
@@ -106,6 +116,7 @@ impl Source for MemorySource {
         requires { 0 < length buf.old }
         ensures bound { ReadsAtMost result buf.new }
         ensures told { Some (source_bytes self.new) ≡ Some (source_bytes self.old) }
+        ensures name { source_name self.new ≡ source_name self.old }
         ensures ends { Some (source_ends self.new) ≡ Some (source_ends self.old) }
         ensures size { length (source_bytes self.new) ≡ length (source_bytes self.old) }
         ensures offset { IfOk result (λ count. source_offset self.new ≡ source_offset self.old + count) }
@@ -141,6 +152,7 @@ impl Source for MemorySource {
     fn seek_to(&mut self, to: u64) -> Result<(), Failed>
         requires { to ≤ length (source_bytes self.old) }
         ensures told { Some (source_bytes self.new) ≡ Some (source_bytes self.old) }
+        ensures name { source_name self.new ≡ source_name self.old }
         ensures ends { Some (source_ends self.new) ≡ Some (source_ends self.old) }
         ensures size { length (source_bytes self.new) ≡ length (source_bytes self.old) }
         ensures reached { OnOk result (source_offset self.new ≡ to) }

@@ -16,6 +16,9 @@ pub trait Source {
     /// All its bytes, where it tells them.
     ghost told: { Self → Option (List ℕ) };
 
+    /// The name under which it was opened.
+    ghost name: { Self → List ℕ };
+
     /// The offset from which on it gives nothing, where it tells that.
     ghost ends: { Self → Option ℕ };
 
@@ -49,6 +52,7 @@ pub trait Source {
         requires { 0 < length buf.old }
         ensures bound { ReadsAtMost result buf.new }
         ensures told { told self.new ≡ told self.old }
+        ensures name { name self.new ≡ name self.old }
         ensures ends { ends self.new ≡ ends self.old }
         ensures size { size self.new ≡ size self.old }
         ensures offset { IfOk result (λ count. offset self.new ≡ offset self.old + count) }
@@ -65,6 +69,7 @@ pub trait Source {
     fn seek_to(&mut self, to: u64) -> Result<(), Failed>
         requires { to ≤ size self.old }
         ensures told { told self.new ≡ told self.old }
+        ensures name { name self.new ≡ name self.old }
         ensures ends { ends self.new ≡ ends self.old }
         ensures size { size self.new ≡ size self.old }
         ensures reached { OnOk result (offset self.new ≡ to) }

@@ -33,6 +33,7 @@ pub fn read_whole<M: Media>(
     ensures files { (M.outside media.new).file ≡ (M.outside media.old).file }
     ensures bytes { IsTrue (M.outside media.old).tells → IfOk result (λ bytes. (M.outside media.old).file name.now ≡ Some bytes.items) }
     ensures fits { IfOk result (λ bytes. length bytes.items ≤ most) }
+    ensures given { WhereTold ((M.outside media.old).ends name.now) (λ end. IfOk result (λ bytes. length bytes.items ≤ end)) }
     ensures reason { IfErr result (HasReadReason name.now most (M.outside media.old) (M.outside media.new)) }
     ensures there { IsTrue (M.outside media.old).tells → IfErr result (λ unread. WasOpened unread → IsSome ((M.outside media.old).file name.now)) }
     ensures absences { IsSome ((M.outside media.old).file name.now) → (M.outside media.new).absences ≡ (M.outside media.old).absences }
@@ -40,6 +41,8 @@ pub fn read_whole<M: Media>(
     ensures absences_stay { result ≢ Err Unread.Absent → (M.outside media.new).absences ≡ (M.outside media.old).absences }
     ensures write_faults { (M.outside media.new).write_faults ≡ (M.outside media.old).write_faults }
     ensures asked { result ≢ Err Unread.OutOfMemory → (M.outside media.new).openings ≡ with_name name.now 1 (M.outside media.old).openings }
+    ensures none_failed { result ≢ Err Unread.Failed → (M.outside media.new).failed_reads ≡ (M.outside media.old).failed_reads }
+    ensures failed_writes { (M.outside media.new).failed_writes ≡ (M.outside media.old).failed_writes }
 {
     let mut source = match media.source(alloc, name) {
         Ok(source) => source,
@@ -57,6 +60,7 @@ fn read_rest<S: Source>(alloc: Global, source: &mut S, most: u64) -> Result<Vec<
     requires { S.offset source.old ≡ 0 }
     ensures bytes { IfOk result (λ bytes. WhereTold (S.told source.old) (λ told. bytes.items ≡ told)) }
     ensures fits { IfOk result (λ bytes. length bytes.items ≤ most) }
+    ensures given { WhereTold (S.ends source.old) (λ end. IfOk result (λ bytes. length bytes.items ≤ end)) }
     ensures keeps_source { KeepsSource S.Source source.old source.new }
     ensures stays { result ≢ Err Unread.Failed → S.faults source.new ≡ S.faults source.old }
     ensures reason { IfErr result (HasRestReason (S.told source.old) (S.ends source.old) most (S.faults source.old) (S.faults source.new)) }
@@ -94,6 +98,7 @@ pub fn write_whole<M: Media>(
     ensures write_stays { result ≢ Err Refused.Failed → (M.outside media.new).write_faults ≡ (M.outside media.old).write_faults }
     ensures absences_stay { result ≢ Err Refused.Absent → (M.outside media.new).absences ≡ (M.outside media.old).absences }
     ensures read_faults { (M.outside media.new).read_faults ≡ (M.outside media.old).read_faults }
+    ensures failed_reads { (M.outside media.new).failed_reads ≡ (M.outside media.old).failed_reads }
     ensures asked { result ≢ Err Refused.OutOfMemory → (M.outside media.new).openings ≡ with_name name.now 1 (M.outside media.old).openings }
     ensures failed_names { IsTrue (M.outside media.old).tells →
         (times : ℕ) × ((M.outside media.new).failed_writes ≡ with_name name.now times (M.outside media.old).failed_writes) }

@@ -30,7 +30,7 @@ struct Ends {
 fn file(alloc: Global) -> Result<PartFile<MemorySource, MemorySink>, Stopped> {
     let bytes = vec![in alloc; 1; 200_000]?;
     Ok(PartFile::From {
-        src: MemorySource::new(bytes),
+        src: MemorySource::new(bytes)?,
         format: MONO,
         frames: 100_000,
     })

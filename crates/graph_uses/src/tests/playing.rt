@@ -18,11 +18,15 @@ fn file_copied(rt: HostRuntime) {
         Ok(bytes) => bytes,
         Err(_) => panic!(rt; "out of memory"),
     };
+    let source = match MemorySource::new(bytes) {
+        Ok(source) => source,
+        Err(_) => panic!(rt; "out of memory"),
+    };
     let sink = match MemorySink::new(rt.alloc(), 100) {
         Ok(sink) => sink,
         Err(_) => panic!(rt; "out of memory"),
     };
-    match copy_file(&rt, rt.alloc(), MemorySource::new(bytes), sink) {
+    match copy_file(&rt, rt.alloc(), source, sink) {
         Ok((progress, Some(PartFile::To { snk, frames: _ }))) => {
             let told = Progress {
                 state: Some(State::Loaded),

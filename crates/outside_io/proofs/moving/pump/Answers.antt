@@ -48,6 +48,7 @@ pub loop-buf-preserved : goal.loop-buf-preserved
 loop-buf-preserved g c = record {
   offset = search rules;
   told = search rules;
+  source_name = search rules;
   ends = search rules;
   size = search rules;
   read = search rules;

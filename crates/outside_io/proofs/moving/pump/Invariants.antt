@@ -7,6 +7,7 @@ abbrev pub invariant-loop-buf : goal.invariant-loop-buf
 invariant-loop-buf g l = record {
   offset : g.S.Source.offset l.initial.source ≤ g.S.Source.offset l.source;
   told : g.S.Source.told l.source ≡ g.S.Source.told l.initial.source;
+  source_name : g.S.Source.name l.source ≡ g.S.Source.name l.initial.source;
   ends : g.S.Source.ends l.source ≡ g.S.Source.ends l.initial.source;
   size : g.S.Source.size l.source ≡ g.S.Source.size l.initial.source;
   read : g.S.Source.faults l.source ≡ g.S.Source.faults l.initial.source;

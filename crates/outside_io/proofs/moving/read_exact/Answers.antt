@@ -31,6 +31,7 @@ loop-done-preserved g c = record {
   within = filled-within c.loop-done.buf c.read.new.buf _ c.loop-done.done c.in-Ok.count c.loop-done.invariant.within c.in-Ok.ensures.bound.0;
   offset = omega (arith, c.in-Ok.ensures.offset, c.loop-done.invariant.offset);
   told = search rules;
+  name = search rules;
   ends = search rules;
   size = search rules;
   read = search rules;

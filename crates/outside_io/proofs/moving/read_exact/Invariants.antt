@@ -8,6 +8,7 @@ invariant-loop-done g l = record {
   within : l.done ≤ length l.buf;
   offset : g.S.Source.offset l.source ≡ g.S.Source.offset l.initial.source + l.done;
   told : g.S.Source.told l.source ≡ g.S.Source.told l.initial.source;
+  name : g.S.Source.name l.source ≡ g.S.Source.name l.initial.source;
   ends : g.S.Source.ends l.source ≡ g.S.Source.ends l.initial.source;
   size : g.S.Source.size l.source ≡ g.S.Source.size l.initial.source;
   read : g.S.Source.faults l.source ≡ g.S.Source.faults l.initial.source;

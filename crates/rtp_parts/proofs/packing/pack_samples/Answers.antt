@@ -20,6 +20,7 @@ loop-done-preserved g c =
       records = search rules;
       offset = omega (arith, c.in_ok-pack_piece.ensures.offset, long, c.loop-done.invariant.offset);
       told = search rules;
+      src_name = search rules;
       ends = search rules;
       size = search rules;
       read = search rules;

@@ -12,6 +12,7 @@ invariant-loop-done g l = record {
   records : length l.records ≡ 22272;
   offset : g.S.Source.offset l.src ≡ g.S.Source.offset l.initial.src + l.done;
   told : g.S.Source.told l.src ≡ g.S.Source.told l.initial.src;
+  src_name : g.S.Source.name l.src ≡ g.S.Source.name l.initial.src;
   ends : g.S.Source.ends l.src ≡ g.S.Source.ends l.initial.src;
   size : g.S.Source.size l.src ≡ g.S.Source.size l.initial.src;
   read : g.S.Source.faults l.src ≡ g.S.Source.faults l.initial.src;

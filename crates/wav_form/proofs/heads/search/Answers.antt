@@ -66,6 +66,7 @@ loop-offset-preserved g c = record {
   small = omega (arith, c.end-offset.ensures.near, c.in_ok-chunk.ensures.content);
   known = search rules;
   told = search rules;
+  src_name = search rules;
   ends = search rules;
   size = search rules;
   faults = search rules;

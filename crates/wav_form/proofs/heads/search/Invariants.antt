@@ -12,6 +12,7 @@ invariant-loop-offset g l = record {
   small : l.offset < 2 ^ 34;
   known : IfSome l.known IsWithinLimits;
   told : g.S.Source.told l.src ≡ g.S.Source.told l.initial.src;
+  src_name : g.S.Source.name l.src ≡ g.S.Source.name l.initial.src;
   ends : g.S.Source.ends l.src ≡ g.S.Source.ends l.initial.src;
   size : g.S.Source.size l.src ≡ g.S.Source.size l.initial.src;
   faults : g.S.Source.faults l.src ≡ g.S.Source.faults l.initial.src;

@@ -51,6 +51,7 @@ loop-held-preserved g c =
       room = search rules;
       reached = λ end is. c.in_ok-take_record-in-None.ensures.reached end (c.loop-held.invariant.ends ∙ is);
       told = c.in_ok-take_record-in-None.ensures.keeps_source.told ∙ c.loop-held.invariant.told;
+      src_name = c.in_ok-take_record-in-None.ensures.keeps_source.name ∙ c.loop-held.invariant.src_name;
       ends = c.in_ok-take_record-in-None.ensures.keeps_source.ends ∙ c.loop-held.invariant.ends;
       size = c.in_ok-take_record-in-None.ensures.keeps_source.size ∙ c.loop-held.invariant.size;
       stays = c.in_ok-take_record-in-None.ensures.stays ∙ c.loop-held.invariant.stays;

@@ -13,6 +13,7 @@ invariant-loop-held g l = record {
   room : length l.buffer ≡ 65535;
   reached : WhereTold (g.S.Source.ends l.initial.src) (λ end. g.S.Source.offset l.src ≤ end);
   told : g.S.Source.told l.src ≡ g.S.Source.told l.initial.src;
+  src_name : g.S.Source.name l.src ≡ g.S.Source.name l.initial.src;
   ends : g.S.Source.ends l.src ≡ g.S.Source.ends l.initial.src;
   size : g.S.Source.size l.src ≡ g.S.Source.size l.initial.src;
   stays : g.S.Source.faults l.src ≡ g.S.Source.faults l.initial.src;
