@@ -2,6 +2,7 @@
 use Rattle.std.proofs.Common.{◌≡◌, ◌≢◌, ℕ, ◌<◌, ◌≤◌, ◌^◌, List, Bool, true, false, [], length, slice_get, Option, Some, Result, Ok, Err, IsTrue, IsFalse, OnOk, IfOk, IfErr, inl, inr, refl, sym, ◌∙◌, ap, subst, arith, ◌∷◌, ◌++◌, ◌-◌}
 use Rattle.std.specs.Prelude.{◌⊎◌}
 use Rattle.std.specs.List.{sum_by}
+use Rattle.std.proofs.lemmas.Bool.{cases_lt}
 use Rattle.std.proofs.lemmas.List.{take_all}
 use Rattle.omx_types.specs.declared.fault.Fault.{Fault}
 use Rattle.omx_types.specs.declared.fault.Fault.TheVariants as Faults
@@ -9,7 +10,7 @@ use Rattle.omx_types.specs.declared.fault.PartFault.{PartFault}
 use Rattle.omx_types.specs.declared.fault.PartFault.TheVariants as kinds
 use Rattle.omx_types.specs.declared.fault.Which.TheVariants.{Line, Log}
 use Rattle.outside_io.specs.Causes.{Rose, sum_of_counts}
-use Rattle.outside_io.specs.Files.{AbsencesStand, CountsStand, GoesOn, IsFrontOf as FrontOf, Outside, SameBut, TellsAbsence, with_name}
+use Rattle.outside_io.specs.Files.{AbsencesStand, CountsStand, GoesOn, IsFailedRead, IsFrontOf as FrontOf, Outside, SameBut, TellsAbsence, with_name, with_names}
 use Rattle.outside_io.specs.Whole.{HasWriteReason, IsKeptOrFrontOf, IsShort}
 use Rattle.outside_io.specs.declared.media.Refused.{Refused}
 use Rattle.outside_io.specs.declared.media.Refused.TheVariants as Refusals
@@ -28,7 +29,7 @@ use Rattle.play_plan_laws.specs.Assemblies.{IsReady, PlayFiles}
 use Rattle.play_result_laws.specs.Files.{AreFiles, AreSamples, IsNoSink, IsWriter, read_by}
 use Rattle.play_result_laws.specs.Results.{HoldSinks, IsLogOf, OthersAreKept}
 use Rattle.play_result_laws.specs.Worlds.{HasWritten}
-use Rattle.play_files.specs.Closing.{AreClosed, failed_reads, failed_writes}
+use Rattle.play_files.specs.Closing.{AreClosed, IsOfFailed, failed_reads, failed_writes}
 use Rattle.play_files.specs.Names.{HaveOwnFiles}
 use Rattle.play_files.specs.Opening.{HasHead, IsSourceOf, IsStill}
 use Rattle.play_files.specs.Seen.{FileSeen, SourceSeen, files_seen}
@@ -51,7 +52,7 @@ use Rattle.play_course.specs.Sums.{planned_summary}
 use Rattle.play_course.proofs.Failing.{itself_front, least_told, least_whole, named_unfailed, take_none}
 use Rattle.play_course.proofs.Running.{nothing_taken, sink_there}
 use Rattle.play_course.proofs.Told.{summary_is}
-use Rattle.play_course.proofs.Ways.{are_files_of, can_play, counted, front, held, others, samples_of, was_opened}
+use Rattle.play_course.proofs.Ways.{are_files_of, can_play, counted, failed_among, front, held, others, samples_of, was_opened}
 
 -- ---- by its counts
 
@@ -73,6 +74,24 @@ read_rose : (after : List (Option FileSeen)) (old mid new : Outside) (closed : R
     → more ≤ sum_by failed_reads after → 1 ≤ more → Rose old.read_faults new.read_faults
 read_rose after old mid new closed more S few C le one = let a = C.reads few in let b = S.reads in omega arith
 
+-- a failed read among them is one of a source that a line names
+read_failed : (parts : List PartLine) (after : List (Option FileSeen)) (old mid new : Outside) (closed : Result (Unit {0}) Failed) → IsStill old mid → AreClosed after mid new closed
+    → (IsTrue old.tells → (name : List ℕ) → IsOfFailed after name → (k : ℕ) × (slice_get (read_names parts) k ≡ Some name)) → 1 ≤ sum_by failed_reads after → Rose old.read_faults new.read_faults
+    → IsFailedRead (read_names parts) old new
+read_failed parts after old mid new closed S C among some rose = record {
+  rose = rose;
+  named = λ tells.
+      (let (more, many, each, is) = C.named_reads in
+      (more, (let few : 1 ≤ length more = omega (arith, many, some) in few), λ k name at. among tells name (each k name at), is ∙ ap (with_names more) S.unread));
+}
+
+-- where the count rose, a source failed
+some_failed : (after : List (Option FileSeen)) (mid new : Outside) (closed : Result (Unit {0}) Failed) → AreClosed after mid new closed → mid.read_faults < new.read_faults → 1 ≤ sum_by failed_reads after
+some_failed after mid new closed C more = elim (cases_lt 0 (sum_by failed_reads after)) [
+  | inl some ↦ some
+  | inr none ↦ (let same = C.unread (omega (arith, none)) in absurd (omega (arith, same, more)))
+]
+
 write_rose : (after : List (Option FileSeen)) (old mid new : Outside) (closed : Result (Unit {0}) Failed) (more : ℕ) → IsStill old mid → AreClosed after mid new closed
     → more ≤ sum_by failed_writes after → 1 ≤ more → Rose old.write_faults new.write_faults
 write_rose after old mid new closed more S C le one = let a = C.writes in let b = S.writes in omega arith
@@ -82,43 +101,45 @@ closing_rose old mid new sum same rose = omega arith
 
 why : (parts : List PartLine) (before after : List (Option FileSeen)) (old mid new : Outside) (few : mid.read_faults < 2 ^ 64) → IsStill old mid
     → ((place at size : ℕ) → IsRunCause before after (Runs.Short place at size) → IsTold parts old place at size)
+    → (IsTrue old.tells → (name : List ℕ) → IsOfFailed after name → (k : ℕ) × (slice_get (read_names parts) k ≡ Some name))
     → (reads writes : Bool) (ran : Result Ran RunFault) (closed : Result (Unit {0}) Failed) → (IsTrue reads → mid.read_faults < new.read_faults) → (IsFalse reads → new.read_faults ≡ mid.read_faults)
     → (IsTrue writes → mid.write_faults < new.write_faults) → (IsFalse writes → new.write_faults ≡ mid.write_faults) → AreClosed after mid new closed → IfErr ran (IsRunCause before after)
     → (fault : Fault) → settled parts ran closed reads writes ≡ Err fault → IsRunFault parts old new fault
-why parts before after old mid new few S short true writes ran closed read unread wrote unwritten C cause fault e =
+why parts before after old mid new few S short among true writes ran closed read unread wrote unwritten C cause fault e =
     let s : Faults.ReadFault ≡ fault = cc in
     let r = read refl in
     let a = S.reads in
     let rose : Rose old.read_faults new.read_faults = omega arith in
-    subst (IsRunFault parts old new) s rose
-why parts before after old mid new few S short false true ran closed read unread wrote unwritten C cause fault e =
+    subst (IsRunFault parts old new) s (read_failed parts after old mid new closed S C among (some_failed after mid new closed C r) rose)
+why parts before after old mid new few S short among false true ran closed read unread wrote unwritten C cause fault e =
     let s : Faults.WriteFault ≡ fault = cc in
     let r = wrote refl in
     let a = S.writes in
     let rose : Rose old.write_faults new.write_faults = omega arith in
     subst (IsRunFault parts old new) s (rose, unread refl ∙ S.reads)
-why parts before after old mid new few S short false false (Ok it) (Ok done) read unread wrote unwritten C cause fault e = absurd cc
-why parts before after old mid new few S short false false (Ok it) (Err failed) read unread wrote unwritten C cause fault e =
+why parts before after old mid new few S short among false false (Ok it) (Ok done) read unread wrote unwritten C cause fault e = absurd cc
+why parts before after old mid new few S short among false false (Ok it) (Err failed) read unread wrote unwritten C cause fault e =
     let s : Faults.WriteFault ≡ fault = cc in
     subst (IsRunFault parts old new) s (closing_rose old.write_faults mid.write_faults new.write_faults _ S.writes C.failed, unread refl ∙ S.reads)
-why parts before after old mid new few S short false false (Err Runs.OutOfMemory) closed read unread wrote unwritten C cause fault e =
+why parts before after old mid new few S short among false false (Err Runs.OutOfMemory) closed read unread wrote unwritten C cause fault e =
     let s : Faults.OutOfMemory ≡ fault = cc in
     subst (IsRunFault parts old new) s tt
-why parts before after old mid new few S short false false (Err Runs.Read) closed read unread wrote unwritten C (place, a, b, was, (format, frames, at), rose) fault e =
+why parts before after old mid new few S short among false false (Err Runs.Read) closed read unread wrote unwritten C (place, a, b, was, (format, frames, at), rose) fault e =
     let s : Faults.ReadFault ≡ fault = cc in
     let le : b.faults ≤ sum_by failed_reads after = counted failed_reads after place _ at in
     let one : 1 ≤ b.faults = omega (arith, rose) in
-    subst (IsRunFault parts old new) s (read_rose after old mid new closed b.faults S few C le one)
-why parts before after old mid new few S short false false (Err Runs.Write) closed read unread wrote unwritten C (place, a, b, was, (frames, at), rose) fault e =
+    let some : 1 ≤ sum_by failed_reads after = omega (arith, le, one) in
+    subst (IsRunFault parts old new) s (read_failed parts after old mid new closed S C among some (read_rose after old mid new closed b.faults S few C le one))
+why parts before after old mid new few S short among false false (Err Runs.Write) closed read unread wrote unwritten C (place, a, b, was, (frames, at), rose) fault e =
     let s : Faults.WriteFault ≡ fault = cc in
     let le : b.faults ≤ sum_by failed_writes after = counted failed_writes after place _ at in
     let one : 1 ≤ b.faults = omega (arith, rose) in
     subst (IsRunFault parts old new) s (write_rose after old mid new closed b.faults S C le one, unread refl ∙ S.reads)
-why parts before after old mid new few S short false false (Err (Runs.Short place at size)) (Ok done) read unread wrote unwritten C cause fault e =
+why parts before after old mid new few S short among false false (Err (Runs.Short place at size)) (Ok done) read unread wrote unwritten C cause fault e =
     let s : Faults.Short (Line (line_in (slice_get parts place))) at size ≡ fault = cc in
     let t = short place at size cause in
     subst (IsRunFault parts old new) s (record { reads = unread refl ∙ S.reads; writes = unwritten refl ∙ S.writes }, (place, t.0, t.1, t.2, t.3, ap (λ (o : Option PartLine). Line (line_in o)) t.2, t.4, t.5))
-why parts before after old mid new few S short false false (Err (Runs.Short place at size)) (Err failed) read unread wrote unwritten C cause fault e =
+why parts before after old mid new few S short among false false (Err (Runs.Short place at size)) (Err failed) read unread wrote unwritten C cause fault e =
     let s : Faults.WriteFault ≡ fault = cc in
     subst (IsRunFault parts old new) s (closing_rose old.write_faults mid.write_faults new.write_faults _ S.writes C.failed, unread refl ∙ S.reads)
 
@@ -270,7 +291,8 @@ module _ {F : Type 0} (seen : F → FileSeen) (script : Script) (name log : List
       absences = absent_none;
       opened = was_opened seen script name log old mid plan entries O own;
       asked = asked_new;
-      why = why plan.parts (files_seen seen entries) H.after old mid new H.few O.still (λ place at size c. short_told place at size H.after c) H.reads H.writes H.ran H.closed H.read H.unread H.wrote H.unwritten H.closes (H.has_run).cause fault (sym H.is ∙ e);
+      why = why plan.parts (files_seen seen entries) H.after old mid new H.few O.still (λ place at size c. short_told place at size H.after c)
+          (failed_among seen script name log old mid plan entries O own H.after (H.has_run).same) H.reads H.writes H.ran H.closed H.read H.unread H.wrote H.unwritten H.closes (H.has_run).cause fault (sym H.is ∙ e);
       world = world H.ran H.has_run fault (sym H.is ∙ e);
       left = λ tells.
           (let f = O.files_are tells in

@@ -21,7 +21,7 @@ use Rattle.play_course.specs.Players.{AreFilesOf, CanPlay}
 use Rattle.play_course.specs.Running.{AreSameFiles, IsSameFile}
 
 same_file : (file : Option FileSeen) → IsSameFile file file
-same_file (Some (Reads source format frames)) = record { size = refl; told = refl; ends = refl; faults = omega arith }
+same_file (Some (Reads source format frames)) = record { name = refl; size = refl; told = refl; ends = refl; faults = omega arith }
 same_file (Some (Writes sink frames)) = record { name = refl; faults = omega arith }
 same_file None = tt
 

@@ -5,6 +5,7 @@ use Rattle.std.specs.Io.KnownBytes.{append_known}
 use Rattle.std.proofs.lemmas.List.{length-map}
 use Rattle.std.proofs.lemmas.List.Sums.{sum_by-cons}
 use Rattle.std.proofs.lemmas.Option.{slice_get_within}
+use Rattle.omx_types.specs.declared.format.Format.{Format}
 use Rattle.outside_io.specs.Files.{IsFrontOf, Outside}
 use Rattle.outside_io.specs.declared.source.Failed.{Failed}
 use Rattle.outside_io.proofs.Closed.{take-twice}
@@ -14,13 +15,15 @@ use Rattle.script_lang.specs.declared.script.Script.{Script}
 use Rattle.play_build_laws.proofs.Places.{get_there}
 use Rattle.play_forms.specs.Plans.{PlanValue}
 use Rattle.play_plan_laws.specs.Assemblies.{PlayFiles}
-use Rattle.play_result_laws.specs.Files.{AreFiles, AreSamples, IsNoSink, IsWriter, written_by}
-use Rattle.play_files.specs.Closing.{AreNamedApart, AreClosed, IsNoneOf, IsSinkAt}
+use Rattle.play_result_laws.specs.Files.{AreFiles, AreSamples, IsNoSink, IsWriter, read_by, written_by}
+use Rattle.play_files.specs.Asked.{read_names}
+use Rattle.play_files.specs.Closing.{AreNamedApart, AreClosed, IsNoneOf, IsOfFailed, IsSinkAt}
 use Rattle.play_files.specs.Names.{HaveOwnFiles}
 use Rattle.play_files.specs.Opening.{IsSinkOf}
-use Rattle.play_files.specs.Seen.{FileSeen, Reads, SinkSeen, Writes, files_seen, offer}
+use Rattle.play_files.specs.Seen.{FileSeen, Reads, SinkSeen, SourceSeen, Writes, files_seen, offer}
 use Rattle.play_files.specs.Whole.{AreAllOpen, play_files}
-use Rattle.play_files.proofs.Stopped.{sink_here, unseen_at}
+use Rattle.play_files.proofs.Asking.{name_among}
+use Rattle.play_files.proofs.Stopped.{sink_here, source_here, unseen_at}
 use Rattle.play_course.specs.Outcomes.{WasOpened}
 use Rattle.std.proofs.lemmas.List.{length-drop}
 use Rattle.play_course.specs.Players.{AreFilesOf, CanPlay}
@@ -97,7 +100,23 @@ module _ {F : Type 0} (seen : F → FileSeen) (script : Script) (name log : List
         let t = the_sink place s.0 (s.1, w.1 ∙ ap Some s.2) in
         (t.0, t.1, λ tells. s.3 ∙ (t.2).name_is tells)
 
+    -- so it is with a source
+    source_was : (a : Option FileSeen) (b : SourceSeen) (format : Format) (frames : ℕ) → IsSameFile a (Some (Reads b format frames)) → (s : SourceSeen) × (f : Format) × (n : ℕ) × (a ≡ Some (Reads s f n)) × (b.name ≡ s.name)
+    source_was (Some (Reads s f n)) b format frames h = (s, f, n, refl, h.name)
+    source_was (Some (Writes s n)) b format frames h = absurd h
+    source_was None b format frames h = absurd h
+
     module _ (tells : IsTrue old.tells) where
+      -- a source that failed has a name that a line reads
+      pub failed_among : (its : List ℕ) → IsOfFailed after its → (k : ℕ) × (slice_get (read_names plan.parts) k ≡ Some its)
+      failed_among its (place, source, (format, frames, at), is, some) =
+          let w = was_at place (Some (Reads source format frames)) at in
+          let s = source_was w.0 source format frames w.2 in
+          let p = source_here seen entries old plan.parts plan.frames (length plan.parts) O.heads O.opened place s.0 s.1 s.2 (w.1 ∙ ap Some s.3) in
+          let among = name_among (λ (part : PartLine). read_by part.form) plan.parts place p.0 p.2.0 p.1 p.2.1 in
+          let same_name : p.2.0 ≡ its = sym ((p.2.2.1).name_is tells) ∙ (sym s.4 ∙ is) in
+          (among.0, among.1 ∙ ap Some same_name)
+
       pub still_apart : AreNamedApart after
       still_apart place other a b at bt e =
           let x = sink_back place a at in

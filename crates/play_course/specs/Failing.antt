@@ -12,11 +12,11 @@ use Rattle.play_forms.specs.Plans.{PlanValue}
 use Rattle.play_plan_laws.specs.Assemblies.{PlayFiles}
 use Rattle.play_result_laws.specs.Files.{IsWriter}
 use Rattle.play_result_laws.specs.Worlds.{HasWritten, IsOpening}
-use Rattle.play_files.specs.Closing.{IsSinkAt}
+use Rattle.play_files.specs.Closing.{IsSinkAt, IsSourceAt}
 use Rattle.play_files.specs.Seen.{FileSeen, SinkSeen, SourceSeen}
 use Rattle.play_course.specs.declared.player.RunFault.{RunFault}
 use Rattle.play_course.specs.declared.player.RunFault.TheVariants as runs
-use Rattle.play_course.specs.Running.{HasTaken, IsSourceAt}
+use Rattle.play_course.specs.Running.{HasTaken}
 
 -- what a fault of a step of the component at the place is for the run
 abbrev pub fault_at : ℕ → PartFault → RunFault

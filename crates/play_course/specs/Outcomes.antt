@@ -6,7 +6,7 @@ use Rattle.omx_types.specs.declared.fault.PartFault.{PartFault}
 use Rattle.omx_types.specs.declared.fault.PartFault.TheVariants as parts
 use Rattle.omx_types.specs.declared.fault.Which.TheVariants.{Line, Log}
 use Rattle.outside_io.specs.Causes.{Rose}
-use Rattle.outside_io.specs.Files.{AbsencesStand, CountsStand, GoesOn, IsFrontOf, Outside, SameBut, TellsAbsence, with_name}
+use Rattle.outside_io.specs.Files.{AbsencesStand, CountsStand, GoesOn, IsFailedRead, IsFrontOf, Outside, SameBut, TellsAbsence, with_name}
 use Rattle.outside_io.specs.Whole.{IsShort}
 use Rattle.wav_form.specs.declared.heads.WavHead.{WavHead}
 use Rattle.il_machine.specs.Acts.{Act, Reply}
@@ -62,10 +62,11 @@ HoldsTold Told log new = (text : List ℕ) × (new.file log ≡ Some text) × To
 
 -- ---- a fault in the run
 
--- a failed read is told before a failed write or closing, and both before a short source, which is short only behind its head
+-- a failed read, which was one of the plan's sources, is told before a failed write or closing, and both before a short source, which
+-- is short only behind its head
 abbrev pub IsRunFault : List PartLine → Outside → Outside → Fault → Type 0
 IsRunFault parts old new Faults.OutOfMemory = Unit {0}
-IsRunFault parts old new Faults.ReadFault = Rose old.read_faults new.read_faults
+IsRunFault parts old new Faults.ReadFault = IsFailedRead (read_names parts) old new
 IsRunFault parts old new Faults.WriteFault = Rose old.write_faults new.write_faults × (new.read_faults ≡ old.read_faults)
 IsRunFault parts old new (Faults.Short which at size) =
     CountsStand old new

@@ -1,20 +1,16 @@
 -- What a play does to its open files.
 use Rattle.std.specs.Prelude.{◌≡◌, ℕ, ◌≤◌, List, length, slice_get, Option, Some, None}
 use Rattle.std.specs.Io.KnownBytes.{append_known}
-use Rattle.omx_types.specs.declared.format.Format.{Format}
 use Rattle.outside_io.specs.Causes.{Rose}
 use Rattle.outside_io.specs.Stops.{GaveNothing}
 use Rattle.play_course.specs.declared.player.RunFault.{RunFault}
 use Rattle.play_course.specs.declared.player.RunFault.TheVariants as Faults
-use Rattle.play_files.specs.Closing.{IsSinkAt}
+use Rattle.play_files.specs.Closing.{IsSinkAt, IsSourceAt}
 use Rattle.play_files.specs.Seen.{FileSeen, Reads, SinkSeen, SourceSeen, Writes}
-
--- at the place stands that source
-abbrev pub IsSourceAt : List (Option FileSeen) → ℕ → SourceSeen → Type 0
-IsSourceAt files place source = (format : Format) × (frames : ℕ) × (slice_get files place ≡ Some (Some (Reads source format frames)))
 
 -- a source that was read further, or failed more often
 pub record IsSameSource (first last : SourceSeen) : Type 0 where
+  pub name : last.name ≡ first.name
   pub size : last.size ≡ first.size
   pub told : last.told ≡ first.told
   pub ends : last.ends ≡ first.ends

@@ -1,5 +1,5 @@
 -- The files that were asked for, one after another.
-use Rattle.std.proofs.Common.{◌≡◌, ℕ, ◌+◌, ◌≤◌, List, [], ◌∷◌, ◌++◌, length, take, slice_get, Option, Some, None, refl, sym, ap, ◌∙◌, append-nil, append_assoc}
+use Rattle.std.proofs.Common.{◌≡◌, ℕ, zero, suc, ◌+◌, ◌≤◌, List, [], ◌∷◌, ◌++◌, length, take, slice_get, Option, Some, None, refl, sym, ap, ◌∙◌, append-nil, append_assoc}
 use Rattle.std.specs.List.{cons_option, filter_map}
 use Rattle.std.proofs.lemmas.List.{take_all, take_more}
 use Rattle.std.proofs.lemmas.List.Elements.{filter_map-append}
@@ -7,8 +7,9 @@ use Rattle.std.proofs.lemmas.Option.{get_or_from_slice_get, slice_get_within}
 use Rattle.outside_io.specs.Files.{GoesOn, Outside, with_name, with_names}
 use Rattle.script_lang.specs.declared.play_line.PartLine.{PartLine}
 use Rattle.play_files.specs.Asked.{HasAskedFor}
+use Rattle.play_files.proofs.Lists.{consed_at}
 
-names_twice : (one other : List (List ℕ)) (names : Option (List (List ℕ))) → with_names other (with_names one names) ≡ with_names (one ++ other) names
+pub names_twice : (one other : List (List ℕ)) (names : Option (List (List ℕ))) → with_names other (with_names one names) ≡ with_names (one ++ other) names
 names_twice one other None = refl
 names_twice one other (Some names) = ap Some (append_assoc names one other)
 
@@ -46,3 +47,13 @@ module _ (file : PartLine → Option (List ℕ)) where
   -- all of them
   pub asked_all : (old mid : Outside) (parts : List PartLine) (i : ℕ) → length parts ≤ i → HasAskedFor old mid (filter_map file (take i parts)) → HasAskedFor old mid (filter_map file parts)
   asked_all old mid parts i over before = before ∙ ap (λ (ps : List PartLine). with_names (filter_map file ps) old.openings) (take_all i parts over)
+
+  -- the file of a component is among them
+  pub name_among : (parts : List PartLine) (place : ℕ) (part : PartLine) (name : List ℕ) → slice_get parts place ≡ Some part → file part ≡ Some name → (k : ℕ) × (slice_get (filter_map file parts) k ≡ Some name)
+  name_among [] place part name there is = absurd cc
+  name_among (first ∷ parts) zero part name there is =
+      let same : first ≡ part = cc in
+      (0, ap (λ (held : Option (List ℕ)). slice_get (cons_option held (filter_map file parts)) 0) (ap file same ∙ is))
+  name_among (first ∷ parts) (suc place) part name there is =
+      let later = name_among parts place part name there is in
+      consed_at (file first) (filter_map file parts) later.0 name later.1

@@ -1,15 +1,17 @@
 -- Files are closed one after another.
-use Rattle.std.proofs.Common.{◌≡◌, ℕ, zero, suc, ◌+◌, ◌-◌, ◌<◌, ◌≤◌, ◌^◌, List, [], ◌∷◌, length, Option, Some, None, Result, Ok, Err, OnOk, OnErr, refl, sym, ◌∙◌, ap, subst, arith}
+use Rattle.std.proofs.Common.{◌≡◌, ℕ, zero, suc, ◌+◌, ◌-◌, ◌<◌, ◌≤◌, ◌^◌, List, [], ◌∷◌, ◌++◌, length, replicate, slice_get, Option, Some, None, Result, Ok, Err, OnOk, OnErr, inl, inr, refl, sym, ◌∙◌, ap, subst, arith}
 use Rattle.std.specs.List.{sum_by}
-use Rattle.std.proofs.lemmas.List.{take_all}
+use Rattle.std.proofs.lemmas.List.{length-append, length-replicate, take_all}
 use Rattle.std.proofs.lemmas.List.Sums.{sum_by-cons}
 use Rattle.outside_io.specs.Causes.{Rose, sum_of_counts}
-use Rattle.outside_io.specs.Files.{GoesOn, IsFrontOf, Outside, SameBut, failed_with, with_name}
+use Rattle.outside_io.specs.Files.{GoesOn, IsFrontOf, Outside, SameBut, failed_with, with_name, with_names}
 use Rattle.outside_io.proofs.Names.{no_name}
 use Rattle.outside_io.specs.Moves.{WhereTold}
 use Rattle.outside_io.specs.declared.source.Failed.{Failed}
-use Rattle.play_files.specs.Closing.{AreNamedApart, AreClosed, IsClosed, IsSinkAt, failed_reads, failed_writes, joined}
+use Rattle.play_files.specs.Closing.{AreNamedApart, AreClosed, IsClosed, IsOfFailed, IsSinkAt, NamesFailed, failed_reads, failed_writes, joined}
 use Rattle.play_files.specs.Seen.{FileSeen, Reads, SinkSeen, SourceSeen, Writes}
+use Rattle.play_files.proofs.Asking.{names_twice}
+use Rattle.play_files.proofs.Lists.{appended_at}
 
 pub same : (old : Outside) → GoesOn old old
 same old = record { tells = refl; ends = refl; may_refuse = refl; read_faults = omega arith; write_faults = omega arith; absences = omega arith }
@@ -24,6 +26,49 @@ then old mid new a b =
     let ba = b.absences in
     record { tells = b.tells ∙ a.tells; ends = b.ends ∙ a.ends; may_refuse = b.may_refuse ∙ a.may_refuse; read_faults = omega arith; write_faults = omega arith; absences = omega arith }
 
+-- ---- the names of failed reads
+
+-- where none failed, none is named
+none_failed : (files : List (Option FileSeen)) (old : Option (List (List ℕ))) → sum_by failed_reads files ≡ 0 → NamesFailed files old old
+none_failed files old none = ([], sym none, λ k name at. absurd cc, no_name [] old)
+
+pub unread_names : (files : List (Option FileSeen)) (old new : Option (List (List ℕ))) → sum_by failed_reads files ≡ 0 → NamesFailed files old new → new ≡ old
+unread_names files old new none ([], many, each, is) = is ∙ sym (no_name [] old)
+unread_names files old new none (name ∷ more, many, each, is) = absurd (omega (arith, many, none))
+
+-- the same name so many times is found only where it is at all
+repeated : (name : List ℕ) (times k : ℕ) (found : List ℕ) → slice_get (replicate times name) k ≡ Some found → (name ≡ found) × (1 ≤ times)
+repeated name zero k found at = absurd cc
+repeated name (suc times) zero found at = (cc, omega arith)
+repeated name (suc times) (suc k) found at = ((repeated name times k found at).0, omega arith)
+
+source_failed : (source : SourceSeen) (format : _) (frames : ℕ) (old : Option (List (List ℕ))) → NamesFailed (Some (Reads source format frames) ∷ []) old (with_name source.name source.faults old)
+source_failed source format frames old = (
+  replicate source.faults source.name,
+  length-replicate source.faults source.name ∙ sym (sum_by-cons failed_reads (Some (Reads source format frames)) [] ∙ (omega arith)),
+  λ k name at. (let r = repeated source.name source.faults k name at in (0, source, (format, frames, refl), r.0, r.1)),
+  refl,
+)
+
+-- one file more
+failed_first : (file : Option FileSeen) (files : List (Option FileSeen)) (name : List ℕ) → IsOfFailed (file ∷ []) name → IsOfFailed (file ∷ files) name
+failed_first file files name (zero, source, at, is, some) = (0, source, at, is, some)
+failed_first file files name (suc place, source, at, is, some) = absurd (let e = at.2 in cc)
+
+failed_next : (file : Option FileSeen) (files : List (Option FileSeen)) (name : List ℕ) → IsOfFailed files name → IsOfFailed (file ∷ files) name
+failed_next file files name (place, source, at, is, some) = (suc place, source, at, is, some)
+
+failed_more : (file : Option FileSeen) (files : List (Option FileSeen)) (old mid new : Option (List (List ℕ))) → NamesFailed files old mid → NamesFailed (file ∷ []) mid new → NamesFailed (file ∷ files) old new
+failed_more file files old mid new (first, first_many, first_each, mid_is) (last, last_many, last_each, new_is) = (
+  first ++ last,
+  (let a = length-append first last in let b = sum_by-cons failed_reads file [] in let d = sum_by-cons failed_reads file files in omega arith),
+  λ k name at. elim (appended_at first last k name at) [
+    | inl here ↦ failed_next file files name (first_each k name here)
+    | inr (n, here) ↦ failed_first file files name (last_each n name here)
+  ],
+  new_is ∙ ap (with_names last) mid_is ∙ names_twice first last old,
+)
+
 -- ---- one file
 
 pub none_closed : (old : Outside) → IsClosed None old old (Ok tt)
@@ -32,6 +77,7 @@ none_closed old = record {
   absences = refl;
   openings = refl;
   named = λ few same. refl;
+  named_reads = none_failed (None ∷ []) old.failed_reads refl;
   reads = λ few. omega arith;
   writes = omega arith;
   whole = λ few. omega arith;
@@ -44,12 +90,13 @@ none_closed old = record {
 }
 
 pub source_closed : (source : SourceSeen) (format : _) (frames : ℕ) (old new : Outside) → GoesOn old new → new.file ≡ old.file → new.absences ≡ old.absences → new.openings ≡ old.openings → new.failed_writes ≡ old.failed_writes → new.write_faults ≡ old.write_faults
-    → new.read_faults ≡ sum_of_counts old.read_faults source.faults → IsClosed (Some (Reads source format frames)) old new (Ok tt)
-source_closed source format frames old new on files absences openings names writes added = record {
+    → new.failed_reads ≡ with_name source.name source.faults old.failed_reads → new.read_faults ≡ sum_of_counts old.read_faults source.faults → IsClosed (Some (Reads source format frames)) old new (Ok tt)
+source_closed source format frames old new on files absences openings names writes failures added = record {
   goes_on = on;
   absences = absences;
   openings = openings;
   named = λ few same. names;
+  named_reads = subst (NamesFailed (Some (Reads source format frames) ∷ []) old.failed_reads) (sym failures) (source_failed source format frames old.failed_reads);
   reads = λ few. added;
   writes = omega arith;
   whole = λ few. omega arith;
@@ -80,12 +127,13 @@ pub sink_closed : (sink : SinkSeen) (frames : ℕ) (old new : Outside) (result :
     → OnOk result (new.file sink.name ≡ sink.told) → OnErr result (WhereTold sink.told (IsFrontOf (new.file sink.name))) → new.absences ≡ old.absences → new.openings ≡ old.openings → new.read_faults ≡ old.read_faults
     → sum_of_counts old.write_faults sink.faults ≤ new.write_faults → OnOk result (new.write_faults ≡ sum_of_counts old.write_faults sink.faults)
     → OnErr result (Rose (sum_of_counts old.write_faults sink.faults) new.write_faults)
-    → new.failed_writes ≡ with_name sink.name (failed_with sink.faults result) old.failed_writes → IsClosed (Some (Writes sink frames)) old new result
-sink_closed sink frames old new result on others held front absences openings reads added whole failed names = record {
+    → new.failed_reads ≡ old.failed_reads → new.failed_writes ≡ with_name sink.name (failed_with sink.faults result) old.failed_writes → IsClosed (Some (Writes sink frames)) old new result
+sink_closed sink frames old new result on others held front absences openings reads added whole failed unread names = record {
   goes_on = on;
   absences = absences;
   openings = openings;
   named = λ few same. none_named sink.name old.write_faults new.write_faults sink.faults result old.failed_writes new.failed_writes few same whole failed names;
+  named_reads = subst (NamesFailed (Some (Writes sink frames) ∷ []) old.failed_reads) (sym unread) (none_failed (Some (Writes sink frames) ∷ []) old.failed_reads refl);
   reads = λ few. omega arith;
   writes = added;
   whole = λ few. whole;
@@ -105,6 +153,7 @@ nothing_closed old = record {
   absences = refl;
   openings = refl;
   named = λ few same. refl;
+  named_reads = none_failed [] old.failed_reads refl;
   reads = λ few. omega arith;
   writes = omega arith;
   whole = λ few. omega arith;
@@ -178,6 +227,7 @@ module _ (file : Option FileSeen) (files : List (Option FileSeen)) (old mid new 
         absences = O.absences ∙ C.absences;
         openings = O.openings ∙ C.openings;
         named = λ few same. (let a = (C.goes_on).write_faults in let b = (O.goes_on).write_faults in O.named (omega (arith, few, same, a, b)) (omega (arith, same, a, b)) ∙ C.named few (omega (arith, same, a, b)));
+        named_reads = failed_more file files old.failed_reads mid.failed_reads new.failed_reads C.named_reads O.named_reads;
         reads = λ few. (let a = C.reads few in let b = O.reads (omega arith) in omega arith);
         writes = omega arith;
         whole = λ few. both_ok r q (mid.write_faults ≡ sum_of_counts old.write_faults (sum_by failed_writes files)) (mid.write_faults < 2 ^ 64 → new.write_faults ≡ sum_of_counts mid.write_faults (failed_writes file)) _

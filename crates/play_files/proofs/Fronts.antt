@@ -1,9 +1,9 @@
 -- Calls of a media one after another.
-use Rattle.std.proofs.Common.{◌≡◌, ℕ, ◌≤◌, List, Option, IsTrue, refl, sym, ◌∙◌, ap, subst, arith}
+use Rattle.std.proofs.Common.{◌≡◌, ℕ, ◌≤◌, List, [], ◌∷◌, Option, IsTrue, refl, sym, ◌∙◌, ap, subst, arith}
 use Rattle.omx_types.specs.declared.fault.Fault.{Fault}
 use Rattle.omx_types.specs.declared.fault.Fault.TheVariants as Faults
 use Rattle.outside_io.specs.Causes.{Rose}
-use Rattle.outside_io.specs.Files.{Outside}
+use Rattle.outside_io.specs.Files.{IsFailedRead, Outside, with_names}
 use Rattle.wav_form.specs.Stops.{StoppedShort}
 use Rattle.wav_form.specs.declared.heads.WavHead.{WavHead}
 use Rattle.play_files.proofs.Closings.{same, then}
@@ -11,7 +11,7 @@ use Rattle.play_files.specs.Opening.{IsSinkFault, IsSinkOf, IsSinkRefused, IsSou
 use Rattle.play_files.specs.Seen.{SinkSeen, SourceSeen}
 
 pub still : (old : Outside) → IsStill old old
-still old = record { goes_on = same old; files = refl; reads = refl; writes = refl; absences = refl; failed = refl }
+still old = record { goes_on = same old; files = refl; reads = refl; writes = refl; absences = refl; unread = refl; failed = refl }
 
 pub still_then : (old mid new : Outside) → IsStill old mid → IsStill mid new → IsStill old new
 still_then old mid new a b = record {
@@ -20,6 +20,7 @@ still_then old mid new a b = record {
   reads = b.reads ∙ a.reads;
   writes = b.writes ∙ a.writes;
   absences = b.absences ∙ a.absences;
+  unread = b.unread ∙ a.unread;
   failed = b.failed ∙ a.failed;
 }
 
@@ -29,6 +30,19 @@ later old mid new le rose = grind arith
 
 pub sooner : (old mid new : ℕ) → mid ≤ new → Rose old mid → Rose old new
 sooner old mid new le rose = grind arith
+
+-- so it is with a failed read that is named
+pub failed_later : (names : List (List ℕ)) (old mid new : Outside) → IsStill old mid → IsFailedRead names mid new → IsFailedRead names old new
+failed_later names old mid new S is = record {
+  rose = later old.read_faults mid.read_faults new.read_faults ((S.goes_on).read_faults) is.rose;
+  named = λ tells. (let n = is.named ((S.goes_on).tells ∙ tells) in (n.0, n.1, n.2, n.3 ∙ ap (with_names n.0) S.unread));
+}
+
+pub failed_sooner : (names : List (List ℕ)) (old mid new : Outside) → IsFailedRead names old mid → IsStill mid new → IsFailedRead names old new
+failed_sooner names old mid new is S = record {
+  rose = sooner old.read_faults mid.read_faults new.read_faults ((S.goes_on).read_faults) is.rose;
+  named = λ tells. (let n = is.named tells in (n.0, n.1, n.2, S.unread ∙ n.3));
+}
 
 -- ---- what was seen from a media that was still until then
 
@@ -45,6 +59,7 @@ module _ (old mid : Outside) (S : IsStill old mid) where
   pub source_sooner : (name : List ℕ) (head : WavHead) (source : SourceSeen) → IsSourceOf mid name head source → IsSourceOf old name head source
   source_sooner name head source I = record {
     offset = I.offset;
+    name_is = λ tells. I.name_is (tells_too tells);
     fits = I.fits;
     faults = I.faults;
     told = I.told ∙ file_same name;
@@ -60,7 +75,7 @@ module _ (old mid : Outside) (S : IsStill old mid) where
 
   source_fault_sooner : (line : ℕ) (name : List ℕ) (new : Outside) (fault : Fault) → IsSourceFault line name mid new fault → IsSourceFault line name old new fault
   source_fault_sooner line name new (Faults.BadMedia which fault) is = (is.0, is.1, λ tells. (let h = is.2 (tells_too tells) in (h.0, sym (file_same name) ∙ h.1, h.2)))
-  source_fault_sooner line name new Faults.ReadFault is = later old.read_faults mid.read_faults new.read_faults ((S.goes_on).read_faults) is
+  source_fault_sooner line name new Faults.ReadFault is = failed_later (name ∷ []) old mid new S is
   source_fault_sooner line name new (Faults.Absent which) is = (is.0, later old.absences mid.absences new.absences ((S.goes_on).absences) is.1, sym (file_same name) ∙ is.2)
   source_fault_sooner line name new Faults.OutOfMemory is = tt
   source_fault_sooner line name new (Faults.Short which at size) is = (
@@ -98,6 +113,7 @@ module _ (old mid : Outside) (S : IsStill old mid) where
     goes_on = then old mid new S.goes_on R.goes_on;
     files = R.files ∙ S.files;
     reads = λ n. R.reads n ∙ S.reads;
+    unread = λ n. R.unread n ∙ S.unread;
     writes = R.writes ∙ S.writes;
     unabsent = λ none. R.unabsent none ∙ S.absences;
     why = source_fault_sooner line name new fault R.why;
@@ -109,6 +125,7 @@ module _ (old mid : Outside) (S : IsStill old mid) where
         goes_on = then old mid new S.goes_on R.goes_on;
         files = R.files ∙ S.files;
         reads = R.reads ∙ S.reads;
+        unread = R.unread ∙ S.unread;
         unabsent = λ none. R.unabsent none ∙ S.absences;
         why = sink_fault_sooner line name new fault R.why;
       }

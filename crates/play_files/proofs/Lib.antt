@@ -11,3 +11,6 @@ pub mod OwnFiles
 pub mod Ready
 pub mod Refusals
 pub mod Stopped
+pub mod FittedPlans
+pub mod SomeFitted
+pub mod FitOrFault

@@ -23,8 +23,8 @@ use Rattle.play_files.specs.Left.{AreEmptied, HaveHeads}
 use Rattle.play_files.specs.Names.{HaveOwnFiles}
 use Rattle.play_files.specs.Opening.{AreOpen, AreRead, HasAt, HasHead, IsOpenFor, IsReadBy, IsReadFor, IsSinkFault, IsSourceFault, IsSourceOf, IsSourceRefused, IsSinkOf, IsStill, IsWrittenBy}
 use Rattle.play_files.specs.Seen.{FileSeen, Reads, SinkSeen, SourceSeen, Writes, files_seen}
-use Rattle.play_files.proofs.Closings.{then}
-use Rattle.play_files.proofs.Fronts.{sooner}
+use Rattle.play_files.proofs.Closings.{then, unread_names}
+use Rattle.play_files.proofs.Fronts.{failed_sooner, sooner}
 use Rattle.play_files.proofs.Ready.{open_writes, read_reads}
 
 -- ---- files by what is seen of them
@@ -160,12 +160,14 @@ module _ {F : Type 0} (seen : F → FileSeen) (entries : List (Option F)) where
     pub sources_closed : (mid new : Outside) (result : Result (Unit {0}) Failed) → AreClosed (files_seen seen entries) mid new result → IsStill mid new
     sources_closed mid new result C =
         let none = C.unwritten (λ place sink at. (let r = read_here place (Some (Writes sink at.0)) at.1 in read_no_sink old _ (r.0).form sink at.0 r.1)) in
+        let calm = none_summed (files_seen seen entries) (λ place file e. (let r = read_here place file e in read_calm old _ (r.0).form file r.1)) in
         record {
           goes_on = C.goes_on;
           files = none.0;
-          reads = C.unread (none_summed (files_seen seen entries) (λ place file e. (let r = read_here place file e in read_calm old _ (r.0).form file r.1)));
+          reads = C.unread calm;
           writes = none.1;
           absences = C.absences;
+          unread = unread_names (files_seen seen entries) mid.failed_reads new.failed_reads calm C.named_reads;
           failed = none.2;
         }
 
@@ -219,6 +221,9 @@ module _ {F : Type 0} (seen : F → FileSeen) (entries : List (Option F)) where
     pub calm_reads : (mid new : Outside) (result : Result (Unit {0}) Failed) → AreClosed (files_seen seen entries) mid new result → new.read_faults ≡ mid.read_faults
     calm_reads mid new result C = C.unread (none_summed (files_seen seen entries) calm_here)
 
+    pub calm_names : (mid new : Outside) (result : Result (Unit {0}) Failed) → AreClosed (files_seen seen entries) mid new result → new.failed_reads ≡ mid.failed_reads
+    calm_names mid new result C = unread_names (files_seen seen entries) mid.failed_reads new.failed_reads (none_summed (files_seen seen entries) calm_here) C.named_reads
+
     module _ (script log : List ℕ) (own : HaveOwnFiles script log parts) (tells : IsTrue old.tells) where
       pub are_apart : AreNamedApart (files_seen seen entries)
       are_apart place other a b at bt e =
@@ -244,7 +249,7 @@ module _ {F : Type 0} (seen : F → FileSeen) (entries : List (Option F)) where
 
 source_fault_later : (line : ℕ) (name : List ℕ) (old mid new : Outside) (fault : Fault) → IsStill mid new → IsSourceFault line name old mid fault → IsSourceFault line name old new fault
 source_fault_later line name old mid new (Faults.BadMedia which fault) S is = is
-source_fault_later line name old mid new Faults.ReadFault S is = sooner old.read_faults mid.read_faults new.read_faults ((S.goes_on).read_faults) is
+source_fault_later line name old mid new Faults.ReadFault S is = failed_sooner (name ∷ []) old mid new is S
 source_fault_later line name old mid new (Faults.Absent which) S is = (is.0, sooner old.absences mid.absences new.absences ((S.goes_on).absences) is.1, is.2)
 source_fault_later line name old mid new Faults.OutOfMemory S is = tt
 source_fault_later line name old mid new (Faults.Short which at size) S is = is
@@ -260,6 +265,7 @@ source_refused_later line name old mid new fault S R = record {
   goes_on = then old mid new R.goes_on S.goes_on;
   files = S.files ∙ R.files;
   reads = λ n. S.reads ∙ R.reads n;
+  unread = λ n. S.unread ∙ R.unread n;
   writes = S.writes ∙ R.writes;
   unabsent = λ none. S.absences ∙ R.unabsent none;
   why = source_fault_later line name old mid new fault S R.why;

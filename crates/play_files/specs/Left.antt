@@ -20,6 +20,14 @@ abbrev pub HaveHeads : Outside → List PartLine → ℕ → List WavHead → Ty
 HaveHeads old parts count heads = IsTrue old.tells → (place : ℕ) (name : List ℕ) → place < count → IsReader parts place name
     → (head : WavHead) × (slice_get heads (source_number parts place) ≡ Some head) × HasHead old name head
 
+-- the plan of the script, fitted to the heads that its told files have
+pub record IsFittedTo (script : Script) (old : Outside) (fitted : PlanValue) : Type 0 where
+  pub planned : PlanValue
+  pub heads : List WavHead
+  pub is_plan : IsPlanOfScript script planned
+  pub have : HaveHeads old planned.parts (length planned.parts) heads
+  pub is_fitted : IsFitted planned heads fitted
+
 -- the script has no plan, or memory was wanted for it; no file was asked for
 pub record IsUnplanned (script : Script) (old new : Outside) (fault : Fault) : Type 0 where
   pub why : PlanFault
@@ -61,6 +69,7 @@ pub record IsUnwritten (planned : PlanValue) (old new : Outside) (fault : Fault)
   pub files_are : IsTrue old.tells → (samples : List (List ℕ)) × AreFiles old plan.parts files samples
   pub goes_on : GoesOn old new
   pub reads : new.read_faults ≡ old.read_faults
+  pub unread : new.failed_reads ≡ old.failed_reads
   pub unabsent : TellsAbsence Faults.Absent old new fault
   pub part : PartLine
   pub place : ℕ

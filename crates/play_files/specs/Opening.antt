@@ -1,12 +1,12 @@
 -- How far the files of a play are open.
-use Rattle.std.specs.Prelude.{◌≡◌, ◌≢◌, ℕ, ◌+◌, ◌<◌, ◌≤◌, List, take, [], length, slice_get, slice_index_or, Option, Some, None, option_map, Ok, Err, IsTrue}
+use Rattle.std.specs.Prelude.{◌≡◌, ◌≢◌, ℕ, ◌+◌, ◌<◌, ◌≤◌, List, take, [], ◌∷◌, length, slice_get, slice_index_or, Option, Some, None, option_map, Ok, Err, IsTrue}
 use Rattle.omx_types.specs.declared.fault.Fault.{Fault}
 use Rattle.omx_types.specs.declared.fault.Fault.TheVariants as Faults
 use Rattle.omx_types.specs.declared.fault.WavFault.{WavFault}
 use Rattle.omx_types.specs.declared.fault.WavFault.TheVariants as WavFaults
 use Rattle.omx_types.specs.declared.fault.Which.TheVariants.{Line}
 use Rattle.outside_io.specs.Causes.{Rose}
-use Rattle.outside_io.specs.Files.{GoesOn, Outside, TellsAbsence}
+use Rattle.outside_io.specs.Files.{GoesOn, IsFailedRead, Outside, TellsAbsence}
 use Rattle.outside_io.specs.Moves.{WhereTold}
 use Rattle.wav_form.specs.Reading.{FitsFile, Reads as ReadsAs, most_bytes}
 use Rattle.wav_form.specs.Stops.{StoppedShort}
@@ -19,13 +19,14 @@ use Rattle.play_result_laws.specs.Files.{read_by, written_by}
 use Rattle.play_files.specs.Asked.{HasAskedFor, read_names}
 use Rattle.play_files.specs.Seen.{FileSeen, Reads, SinkSeen, SourceSeen, Writes}
 
--- nothing that is told of the files changed, no count rose, and no failed write was named
+-- nothing that is told of the files changed, no count rose, and no failed read or write was named
 pub record IsStill (old new : Outside) : Type 0 where
   pub goes_on : GoesOn old new
   pub files : new.file ≡ old.file
   pub reads : new.read_faults ≡ old.read_faults
   pub writes : new.write_faults ≡ old.write_faults
   pub absences : new.absences ≡ old.absences
+  pub unread : new.failed_reads ≡ old.failed_reads
   pub failed : new.failed_writes ≡ old.failed_writes
 
 -- ---- one file
@@ -37,6 +38,7 @@ HasHead old name head = (bytes : List ℕ) × (old.file name ≡ Some bytes) × 
 -- a source of that name, which stands behind its head
 pub record IsSourceOf (old : Outside) (name : List ℕ) (head : WavHead) (source : SourceSeen) : Type 0 where
   pub offset : source.offset ≡ head.start
+  pub name_is : IsTrue old.tells → source.name ≡ name
   pub fits : FitsFile head source.size
   pub faults : source.faults ≡ 0
   pub told : source.told ≡ old.file name
@@ -75,7 +77,7 @@ pub record IsShortHead (name : List ℕ) (old : Outside) (at size : ℕ) : Type 
 abbrev pub IsSourceFault : ℕ → List ℕ → Outside → Outside → Fault → Type 0
 IsSourceFault line name old new (Faults.BadMedia which fault) =
     (which ≡ Line line) × IsOfHead fault × (IsTrue old.tells → (bytes : List ℕ) × (old.file name ≡ Some bytes) × ReadsAs bytes (Err fault))
-IsSourceFault line name old new Faults.ReadFault = Rose old.read_faults new.read_faults
+IsSourceFault line name old new Faults.ReadFault = IsFailedRead (name ∷ []) old new
 IsSourceFault line name old new (Faults.Absent which) = (which ≡ Line line) × Rose old.absences new.absences × (old.file name ≡ None)
 IsSourceFault line name old new Faults.OutOfMemory = Unit {0}
 IsSourceFault line name old new (Faults.Short which at size) = (which ≡ Line line) × IsShortHead name old at size
@@ -93,6 +95,7 @@ pub record IsSourceRefused (line : ℕ) (name : List ℕ) (old new : Outside) (f
   pub goes_on : GoesOn old new
   pub files : new.file ≡ old.file
   pub reads : fault ≢ Faults.ReadFault → new.read_faults ≡ old.read_faults
+  pub unread : fault ≢ Faults.ReadFault → new.failed_reads ≡ old.failed_reads
   pub writes : new.write_faults ≡ old.write_faults
   pub unabsent : TellsAbsence Faults.Absent old new fault
   pub why : IsSourceFault line name old new fault
@@ -101,6 +104,7 @@ pub record IsSinkRefused (line : ℕ) (name : List ℕ) (old new : Outside) (fau
   pub goes_on : GoesOn old new
   pub files : new.file ≡ old.file
   pub reads : new.read_faults ≡ old.read_faults
+  pub unread : new.failed_reads ≡ old.failed_reads
   pub unabsent : TellsAbsence Faults.Absent old new fault
   pub why : IsSinkFault line name old new fault
 

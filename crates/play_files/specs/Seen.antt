@@ -12,6 +12,7 @@ pub record SourceSeen : Type 0 where
   pub size : ℕ
   pub told : Option (List ℕ)
   pub ends : Option ℕ
+  pub name : List ℕ
   pub faults : ℕ
 
 pub record SinkSeen : Type 0 where
@@ -25,7 +26,7 @@ pub data FileSeen : Type 0 where
   Writes : (sink : SinkSeen) (frames : ℕ) → FileSeen
 
 abbrev pub source_seen : {S : Type 0} → SourceGhosts S → S → SourceSeen
-source_seen g src = record { offset = g.offset src; size = g.size src; told = g.told src; ends = g.ends src; faults = g.faults src }
+source_seen g src = record { offset = g.offset src; size = g.size src; told = g.told src; ends = g.ends src; name = g.name src; faults = g.faults src }
 
 abbrev pub sink_seen : {K : Type 0} → SinkGhosts K → K → SinkSeen
 sink_seen g snk = record { told = g.told snk; name = g.name snk; faults = g.faults snk }

@@ -10,5 +10,5 @@ mod sinks;
 mod sources;
 
 pub use closing::close_files;
-pub use laws::law_of_names;
+pub use laws::{law_of_fitted_plans, law_of_names};
 pub use opening::{Opened, open_files};

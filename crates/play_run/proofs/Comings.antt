@@ -49,7 +49,7 @@ module _ {S K : Type 0} (reads : SourceGhosts S) (writes : SinkGhosts K) where
         let z : Some file ≡ Some (file_of place x.graph) = sym e ∙ are place (omega (arith, b, many_now)) in
         cc
 
-    module _ (stayed : FilesStayed (ObjectStays reads.size reads.told reads.ends reads.offset reads.faults writes.name writes.faults) first x) where
+    module _ (stayed : FilesStayed (ObjectStays reads.name reads.size reads.told reads.ends reads.offset reads.faults writes.name writes.faults) first x) where
       pub are_same : AreSameFiles (seen entries) (seen now)
       are_same = record {
         many = length-map now (option_map seen_file) ∙ (many_now ∙ sym (length-map entries (option_map seen_file) ∙ many));

@@ -89,7 +89,7 @@ module _ {S K : Type 0} (reads : SourceGhosts S) (writes : SinkGhosts K) (plan :
       )
 
   module _ (first x : PlayingValue S K) (mid now : List (Option (PartFile S K))) (is_plan : x.plan ≡ plan) (many_mid : length mid ≡ length entries) (many_now : length now ≡ length mid)
-      (were : AreGraphFiles first.graph (length plan.parts) entries) (are : AreGraphFiles x.graph (length x.plan.parts) now) (stayed : FilesStayed (ObjectStays reads.size reads.told reads.ends reads.offset reads.faults writes.name writes.faults) first x) where
+      (were : AreGraphFiles first.graph (length plan.parts) entries) (are : AreGraphFiles x.graph (length x.plan.parts) now) (stayed : FilesStayed (ObjectStays reads.name reads.size reads.told reads.ends reads.offset reads.faults writes.name writes.faults) first x) where
     many_first : length entries ≡ length x.plan.parts
     many_first = sym (length-map entries (option_map (seen_file reads writes))) ∙ (ready.many ∙ ap (λ (y : PlanValue). length y.parts) (sym is_plan))
 

@@ -75,7 +75,7 @@ of_stream w place P s found h =
 module _ {S K : Type 0} (reads : SourceGhosts S) (writes : SinkGhosts K)
     (first x : PlayingValue S K) (entries now : List (Option (PartFile S K))) (many : length entries ≡ length x.plan.parts) (many_now : length now ≡ length x.plan.parts)
     (were : AreGraphFiles first.graph (length x.plan.parts) entries) (are : AreGraphFiles x.graph (length x.plan.parts) now)
-    (stayed : FilesStayed (ObjectStays reads.size reads.told reads.ends reads.offset reads.faults writes.name writes.faults) first x) (written : Always (kept_of x.graph) (TellWritten writes.told x.graph)) where
+    (stayed : FilesStayed (ObjectStays reads.name reads.size reads.told reads.ends reads.offset reads.faults writes.name writes.faults) first x) (written : Always (kept_of x.graph) (TellWritten writes.told x.graph)) where
   abbrev before : List (Option FileSeen)
   before = seen reads writes entries
 

@@ -47,7 +47,7 @@ module _ {S K : Type 0} (reads : SourceGhosts S) (writes : SinkGhosts K) where
   sink_entry (Some (files.From src format frames)) n known e = absurd cc
   sink_entry (Some (files.To snk frames)) n known e = (snk, frames, refl, let s : Some (OfferedTo frames (writes.told snk)) ≡ Some (OfferedTo n known) = e in let t : OfferedTo frames (writes.told snk) ≡ OfferedTo n known = cc in cc)
 
-  pub sink_stays : (snk : K) (frames : ℕ) (file : Option (PartFile S K)) (failed : Bool) → ObjectStays reads.size reads.told reads.ends reads.offset reads.faults writes.name writes.faults (unfailed (Some (files.To snk frames))) (record { failed = failed; file = file })
+  pub sink_stays : (snk : K) (frames : ℕ) (file : Option (PartFile S K)) (failed : Bool) → ObjectStays reads.name reads.size reads.told reads.ends reads.offset reads.faults writes.name writes.faults (unfailed (Some (files.To snk frames))) (record { failed = failed; file = file })
       → (now : K) × (count : ℕ) × (file ≡ Some (files.To now count))
   sink_stays snk frames None failed h = absurd h.1
   sink_stays snk frames (Some (files.From src format count)) failed h = absurd h.1

@@ -25,7 +25,7 @@ module _ {S K : Type 0} (reads : SourceGhosts S) (writes : SinkGhosts K) where
   seen_all entries = files_seen (file_seen reads writes) entries
 
   abbrev pub StaysBy : Held S K → Held S K → Type 0
-  StaysBy = ObjectStays reads.size reads.told reads.ends reads.offset reads.faults writes.name writes.faults
+  StaysBy = ObjectStays reads.name reads.size reads.told reads.ends reads.offset reads.faults writes.name writes.faults
 
   -- ---- what is offered
 
@@ -54,18 +54,18 @@ module _ {S K : Type 0} (reads : SourceGhosts S) (writes : SinkGhosts K) where
       let s : Some (option_map seen_by p.0) ≡ Some a = sym (seen_at entries place p.0 p.1) ∙ e in
       (p.0, p.1, cc)
 
-  pub same_file : (a b : Option (PartFile S K)) (failed : Bool) → ObjectStays reads.size reads.told reads.ends reads.offset reads.faults writes.name writes.faults (unfailed a) (record { failed = failed; file = b }) → IsSameFile (option_map seen_by a) (option_map seen_by b)
+  pub same_file : (a b : Option (PartFile S K)) (failed : Bool) → ObjectStays reads.name reads.size reads.told reads.ends reads.offset reads.faults writes.name writes.faults (unfailed a) (record { failed = failed; file = b }) → IsSameFile (option_map seen_by a) (option_map seen_by b)
   same_file None None failed h = tt
   same_file None (Some b) failed h = absurd h.1
   same_file (Some a) None failed h = absurd h.1
-  same_file (Some (files.From src format frames)) (Some (files.From src' format' frames')) failed h = let s = h.1.2 in record { size = s.size; told = s.told; ends = s.ends; faults = s.faults }
+  same_file (Some (files.From src format frames)) (Some (files.From src' format' frames')) failed h = let s = h.1.2 in record { name = s.name; size = s.size; told = s.told; ends = s.ends; faults = s.faults }
   same_file (Some (files.From src format frames)) (Some (files.To snk frames')) failed h = absurd h.1
   same_file (Some (files.To snk frames)) (Some (files.From src format frames')) failed h = absurd h.1
   same_file (Some (files.To snk frames)) (Some (files.To snk' frames')) failed h = let s = h.1.1 in record { name = s.name; faults = s.faults }
 
   itself : (a : Option FileSeen) → IsSameFile a a
   itself None = tt
-  itself (Some (Reads source format frames)) = record { size = refl; told = refl; ends = refl; faults = omega arith }
+  itself (Some (Reads source format frames)) = record { name = refl; size = refl; told = refl; ends = refl; faults = omega arith }
   itself (Some (Writes sink frames)) = record { name = refl; faults = omega arith }
 
   pub files_same : (entries : List (Option (PartFile S K))) → AreSameFiles (seen_all entries) (seen_all entries)

@@ -118,9 +118,9 @@ impl<S: Source, K: Sink> Playing<S, K> {
         requires there { component < length self.old.plan.parts }
         requires plays { SomePlay (IsPlaying self.old) }
         ensures plan { self.new.plan ≡ self.old.plan }
-        ensures objects { OnOk result (FilesStay (ObjectStays S.size S.told S.ends S.offset S.faults K.name K.faults) self.old self.new) }
+        ensures objects { OnOk result (FilesStay (ObjectStays S.name S.size S.told S.ends S.offset S.faults K.name K.faults) self.old self.new) }
         ensures turned { IfOk result (λ acted. TurnsTo self.old self.new acted (IsStepOf (layout_of self.old.plan) component)) }
-        ensures failed { IfErr result (FailsOn (ObjectStays S.size S.told S.ends S.offset S.faults K.name K.faults)
+        ensures failed { IfErr result (FailsOn (ObjectStays S.name S.size S.told S.ends S.offset S.faults K.name K.faults)
             (ObjectShows S.size S.ends S.offset S.faults K.faults) self.old self.new) }
     {
         law_of_component_streams();

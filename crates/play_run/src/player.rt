@@ -18,9 +18,9 @@ impl<S: Source, K: Sink> TakeTurns for Playing<S, K> {
 
     ghost Plays = { λ x. IsPlaying x };
 
-    ghost Leads = { λ x y. LeadsOn (ObjectStays S.size S.told S.ends S.offset S.faults K.name K.faults) x y };
+    ghost Leads = { λ x y. LeadsOn (ObjectStays S.name S.size S.told S.ends S.offset S.faults K.name K.faults) x y };
 
-    ghost Fails = { λ x y. BreaksOff (ObjectStays S.size S.told S.ends S.offset S.faults K.name K.faults) (ObjectShows S.size S.ends S.offset S.faults K.faults) x y };
+    ghost Fails = { λ x y. BreaksOff (ObjectStays S.name S.size S.told S.ends S.offset S.faults K.name K.faults) (ObjectShows S.size S.ends S.offset S.faults K.faults) x y };
 
     fn components(&self) -> u32 {
         self.count()
@@ -58,9 +58,9 @@ impl<S: Source, K: Sink> TakeTurns for Playing<S, K> {
         supplied | released | over | back
     }
 
-    ghost leads_to_itself = { λ x. leads_to_itself (ObjectStays S.size S.told S.ends S.offset S.faults K.name K.faults) (ObjectShows S.size S.ends S.offset S.faults K.faults) (object_itself S.size S.told S.ends S.offset S.faults K.name K.faults) x };
+    ghost leads_to_itself = { λ x. leads_to_itself (ObjectStays S.name S.size S.told S.ends S.offset S.faults K.name K.faults) (ObjectShows S.size S.ends S.offset S.faults K.faults) (object_itself S.name S.size S.told S.ends S.offset S.faults K.name K.faults) x };
 
-    ghost leads_on = { λ x y z. leads_on (ObjectStays S.size S.told S.ends S.offset S.faults K.name K.faults) (ObjectShows S.size S.ends S.offset S.faults K.faults) (object_further S.size S.told S.ends S.offset S.faults K.name K.faults) x y z };
+    ghost leads_on = { λ x y z. leads_on (ObjectStays S.name S.size S.told S.ends S.offset S.faults K.name K.faults) (ObjectShows S.size S.ends S.offset S.faults K.faults) (object_further S.name S.size S.told S.ends S.offset S.faults K.name K.faults) x y z };
 
-    ghost fails_on = { λ x y z stop. breaks_off (ObjectStays S.size S.told S.ends S.offset S.faults K.name K.faults) (ObjectShows S.size S.ends S.offset S.faults K.faults) (object_further S.size S.told S.ends S.offset S.faults K.name K.faults) (shows_earlier S.size S.told S.ends S.offset S.faults K.name K.faults) x y z stop };
+    ghost fails_on = { λ x y z stop. breaks_off (ObjectStays S.name S.size S.told S.ends S.offset S.faults K.name K.faults) (ObjectShows S.size S.ends S.offset S.faults K.faults) (object_further S.name S.size S.told S.ends S.offset S.faults K.name K.faults) (shows_earlier S.name S.size S.told S.ends S.offset S.faults K.name K.faults) x y z stop };
 }

@@ -80,10 +80,10 @@ impl<S: Source, K: Sink> Playing<S, K> {
         requires { CanPlay (layout_of self.old.plan) (IsPlaying self.old) 340282366920938463463374607431768211455 }
         ensures plan { self.new.plan ≡ self.old.plan }
         ensures over { OnOk result (EndsOf (layout_of self.old.plan) (IsPlaying self.old) (IsPlaying self.new)) }
-        ensures objects { OnOk result (FilesStay (ObjectStays S.size S.told S.ends S.offset S.faults K.name K.faults) self.old self.new) }
+        ensures objects { OnOk result (FilesStay (ObjectStays S.name S.size S.told S.ends S.offset S.faults K.name K.faults) self.old self.new) }
         ensures played { OnOk result ((given : PlayFiles) → HasBegun self.old given → HasPlayedWith self.new given) }
         ensures broken_off { IfErr result (HasBrokenOff self.new) }
-        ensures objects_then { OnErr result (FilesStayed (ObjectStays S.size S.told S.ends S.offset S.faults K.name K.faults) self.old self.new) }
+        ensures objects_then { OnErr result (FilesStayed (ObjectStays S.name S.size S.told S.ends S.offset S.faults K.name K.faults) self.old self.new) }
         ensures shows { IfErr result (StopShows (ObjectShows S.size S.ends S.offset S.faults K.faults) self.old self.new) }
         ensures broken_off_with { IfErr result (λ stop. (given : PlayFiles) → HasBegun self.old given → HasBrokenOffWith self.new stop given) }
     {

@@ -20,7 +20,7 @@ is_steady other = true
 module _ {S K : Type 0} (reads : SourceGhosts S) (writes : SinkGhosts K) where
   -- each is the one that was there at first, read or written further, whether or not a step of its component failed
   abbrev pub HaveStayed : Shown S K Progress → Shown S K Progress → Type 0
-  HaveStayed first now = (number : ℕ) → (failed : Bool) × ObjectStays reads.size reads.told reads.ends reads.offset reads.faults writes.name writes.faults (unfailed (file_of number first)) (record { failed = failed; file = file_of number now })
+  HaveStayed first now = (number : ℕ) → (failed : Bool) × ObjectStays reads.name reads.size reads.told reads.ends reads.offset reads.faults writes.name writes.faults (unfailed (file_of number first)) (record { failed = failed; file = file_of number now })
 
   -- that a step of the component failed so shows in its file
   abbrev pub ShowsSince : Shown S K Progress → Shown S K Progress → ℕ → PartFault → Type 0

@@ -14,7 +14,7 @@ use Rattle.play_files.proofs.Closings.{then}
 use Rattle.play_files.proofs.Fronts.{still, still_then}
 use Rattle.play_files.proofs.OwnFiles.{own_files}
 use Rattle.play_files.proofs.Ready.{are_files, are_offered, is_ready, left_files, left_told}
-use Rattle.play_files.proofs.Stopped.{calm_reads, emptied, have_heads, sink_fault_later, source_refused_later, sources_closed}
+use Rattle.play_files.proofs.Stopped.{calm_names, calm_reads, emptied, have_heads, sink_fault_later, source_refused_later, sources_closed}
 use Rattle.play_files.proofs.opening.open_files.Goals as goal
 
 -- want of memory for a script that has a plan
@@ -107,6 +107,7 @@ returns-in-Err-open_planned-clause-unopened g c =
               goes_on = then old mid new refused.goes_on c.close_files.ensures.goes_on;
               unabsent = λ none. c.close_files.ensures.absences ∙ refused.unabsent none;
               reads = calm_reads seen files old plan.parts plan.frames A.place heads A.opened mid new c.close_files.result c.close_files.ensures ∙ refused.reads;
+              unread = calm_names seen files old plan.parts plan.frames A.place heads A.opened mid new c.close_files.result c.close_files.ensures ∙ refused.unread;
               part = (A.met).part;
               place = A.place;
               there = (A.met).there;

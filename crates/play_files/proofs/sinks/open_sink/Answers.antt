@@ -13,7 +13,7 @@ returns-in-Err-clause-refused g c =
     let e = c.in-Err.ensures in
     subst (λ (fault : Fault). IsSinkRefused c.args.line c.args.name.now old new fault) (sym c.sink_fault.ensures)
     (sink_refused c.args.line c.args.name.now old new c.in-Err.refused c.sink.ensures.goes_on c.sink.ensures.files
-    (λ is. e.absent (ap Err is)) (λ is. e.absent_name (ap Err is)) (λ is. e.failed (ap Err is)) c.sink.ensures.read_faults
+    (λ is. e.absent (ap Err is)) (λ is. e.absent_name (ap Err is)) (λ is. e.failed (ap Err is)) c.sink.ensures.read_faults c.sink.ensures.failed_reads
     (λ other. e.absences_stay (λ same. other (cc))))
 
 pub returns-in-Err-clause-asked : goal.returns-in-Err-clause-asked

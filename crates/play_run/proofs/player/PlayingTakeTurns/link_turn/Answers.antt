@@ -33,7 +33,7 @@ pub returns-clause-leads : goal.returns-clause-leads
 returns-clause-leads g c =
     let x = c.args.self.now in
     let k = c.hand_back-back in
-    leads_of (ObjectStays g.S.Source.size g.S.Source.told g.S.Source.ends g.S.Source.offset g.S.Source.faults g.K.Sink.name g.K.Sink.faults) x k.new.self _ (IsOfLink c.args.link) (k.ensures.plan ∙ (c.hand_over-over.ensures.plan ∙ (c.release-released.ensures.plan ∙ c.supply-supplied.ensures.plan)))
-    (files_stay (ObjectStays g.S.Source.size g.S.Source.told g.S.Source.ends g.S.Source.offset g.S.Source.faults g.K.Sink.name g.K.Sink.faults) (object_itself g.S.Source.size g.S.Source.told g.S.Source.ends g.S.Source.offset g.S.Source.faults g.K.Sink.name g.K.Sink.faults) x k.new.self (λ n. k.ensures.files n ∙ (c.hand_over-over.ensures.files n ∙ (c.release-released.ensures.files n ∙ c.supply-supplied.ensures.files n))))
+    leads_of (ObjectStays g.S.Source.name g.S.Source.size g.S.Source.told g.S.Source.ends g.S.Source.offset g.S.Source.faults g.K.Sink.name g.K.Sink.faults) x k.new.self _ (IsOfLink c.args.link) (k.ensures.plan ∙ (c.hand_over-over.ensures.plan ∙ (c.release-released.ensures.plan ∙ c.supply-supplied.ensures.plan)))
+    (files_stay (ObjectStays g.S.Source.name g.S.Source.size g.S.Source.told g.S.Source.ends g.S.Source.offset g.S.Source.faults g.K.Sink.name g.K.Sink.faults) (object_itself g.S.Source.name g.S.Source.size g.S.Source.told g.S.Source.ends g.S.Source.offset g.S.Source.faults g.K.Sink.name g.K.Sink.faults) x k.new.self (λ n. k.ensures.files n ∙ (c.hand_over-over.ensures.files n ∙ (c.release-released.ensures.files n ∙ c.supply-supplied.ensures.files n))))
     (whole_turn x c.supply-supplied.new.self c.release-released.new.self c.hand_over-over.new.self k.new.self c.args.link c.supply-supplied.result c.release-released.result c.hand_over-over.result k.result
     c.supply-supplied.ensures.plan c.release-released.ensures.plan c.hand_over-over.ensures.plan c.supply-supplied.ensures.turned c.release-released.ensures.turned c.hand_over-over.ensures.turned k.ensures.turned)

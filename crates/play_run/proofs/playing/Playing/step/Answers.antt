@@ -114,8 +114,8 @@ returns-in-Some-fault-clause-failed g c =
     let before = held_of work.part in
     let after = held_of c.run-done.result.part in
     let viewed = ap (λ (x : PlayingValue g.row.S.Denot g.row.K.Denot). x.graph) c.self.view_is in
-    let objects = subst (λ (k : Shown g.row.S.Denot g.row.K.Denot Progress). (n : ℕ) → (failed : Bool) × (ObjectStays g.S.Source.size g.S.Source.told g.S.Source.ends g.S.Source.offset g.S.Source.faults g.K.Sink.name g.K.Sink.faults) (unfailed (file_of n k)) (record { failed = failed; file = file_of n c.finish.new.self })) viewed
-    (work_stayed (ObjectStays g.S.Source.size g.S.Source.told g.S.Source.ends g.S.Source.offset g.S.Source.faults g.K.Sink.name g.K.Sink.faults) (object_itself g.S.Source.size g.S.Source.told g.S.Source.ends g.S.Source.offset g.S.Source.faults g.K.Sink.name g.K.Sink.faults) c.self.inside.graph c.claim.new.self c.finish.new.self h.generation before after whole file back c.claim.ensures.files comes run.kept) in
+    let objects = subst (λ (k : Shown g.row.S.Denot g.row.K.Denot Progress). (n : ℕ) → (failed : Bool) × (ObjectStays g.S.Source.name g.S.Source.size g.S.Source.told g.S.Source.ends g.S.Source.offset g.S.Source.faults g.K.Sink.name g.K.Sink.faults) (unfailed (file_of n k)) (record { failed = failed; file = file_of n c.finish.new.self })) viewed
+    (work_stayed (ObjectStays g.S.Source.name g.S.Source.size g.S.Source.told g.S.Source.ends g.S.Source.offset g.S.Source.faults g.K.Sink.name g.K.Sink.faults) (object_itself g.S.Source.name g.S.Source.size g.S.Source.told g.S.Source.ends g.S.Source.offset g.S.Source.faults g.K.Sink.name g.K.Sink.faults) c.self.inside.graph c.claim.new.self c.finish.new.self h.generation before after whole file back c.claim.ensures.files comes run.kept) in
     let shows = subst (λ (k : Shown g.row.S.Denot g.row.K.Denot Progress). (failed : Bool) × (ObjectShows g.S.Source.size g.S.Source.ends g.S.Source.offset g.S.Source.faults g.K.Sink.faults) c.in-Some-fault.fault (unfailed (file_of c.place-place.result k)) (record { failed = failed; file = file_of c.place-place.result c.finish.new.self })) viewed
     (work_shows ((ObjectShows g.S.Source.size g.S.Source.ends g.S.Source.offset g.S.Source.faults g.K.Sink.faults) c.in-Some-fault.fault) c.self.inside.graph c.finish.new.self h.generation c.place-place.result before after whole file back own
     (subst (λ (o : Option PartFault). IfSome o (λ fault. (ObjectShows g.S.Source.size g.S.Source.ends g.S.Source.offset g.S.Source.faults g.K.Sink.faults) fault before after)) (sym c.fault-fault.ensures ∙ c.in-Some-fault.is) run.shows)) in
@@ -126,12 +126,12 @@ returns-in-Some-fault-clause-failed g c =
     (λ recent p w v W b B k H stream Q. c.law_of_written_streams.ensures.failed (play_cast_of c.self.inside.plan) k recent p w v c.args.component B.component B.work B.done c.in-Some-fault.fault stream W H Q b B.there B.out B.its B.does B.faults B.comes) done objects shows
 
 pub returns-in-Err-clause-objects : goal.returns-in-Err-clause-objects
-returns-in-Err-clause-objects g c = files_same (ObjectStays g.S.Source.size g.S.Source.told g.S.Source.ends g.S.Source.offset g.S.Source.faults g.K.Sink.name g.K.Sink.faults) (object_itself g.S.Source.size g.S.Source.told g.S.Source.ends g.S.Source.offset g.S.Source.faults g.K.Sink.name g.K.Sink.faults) _ c.args.self.now c.self.view_is c.claim.new.self c.self.inside.log c.in-Err.ensures.unchanged
+returns-in-Err-clause-objects g c = files_same (ObjectStays g.S.Source.name g.S.Source.size g.S.Source.told g.S.Source.ends g.S.Source.offset g.S.Source.faults g.K.Sink.name g.K.Sink.faults) (object_itself g.S.Source.name g.S.Source.size g.S.Source.told g.S.Source.ends g.S.Source.offset g.S.Source.faults g.K.Sink.name g.K.Sink.faults) _ c.args.self.now c.self.view_is c.claim.new.self c.self.inside.log c.in-Err.ensures.unchanged
 
 pub returns-in-None-clause-objects : goal.returns-in-None-clause-objects
 returns-in-None-clause-objects g c =
     let t = terms_at c.handle-h.result (look_of c.self.inside.graph) in
-    files_same (ObjectStays g.S.Source.size g.S.Source.told g.S.Source.ends g.S.Source.offset g.S.Source.faults g.K.Sink.name g.K.Sink.faults) (object_itself g.S.Source.size g.S.Source.told g.S.Source.ends g.S.Source.offset g.S.Source.faults g.K.Sink.name g.K.Sink.faults) _ c.args.self.now c.self.view_is c.claim.new.self c.self.inside.log (no_work_same c.in-Ok.answer t (c.in-None.ensures.none t) c.in-Ok.ensures.unchanged)
+    files_same (ObjectStays g.S.Source.name g.S.Source.size g.S.Source.told g.S.Source.ends g.S.Source.offset g.S.Source.faults g.K.Sink.name g.K.Sink.faults) (object_itself g.S.Source.name g.S.Source.size g.S.Source.told g.S.Source.ends g.S.Source.offset g.S.Source.faults g.K.Sink.name g.K.Sink.faults) _ c.args.self.now c.self.view_is c.claim.new.self c.self.inside.log (no_work_same c.in-Ok.answer t (c.in-None.ensures.none t) c.in-Ok.ensures.unchanged)
 
 pub returns-in-None-fault-clause-objects : goal.returns-in-None-fault-clause-objects
 returns-in-None-fault-clause-objects g c =
@@ -149,5 +149,5 @@ returns-in-None-fault-clause-objects g c =
     let after = held_of c.run-done.result.part in
     let viewed = ap (λ (x : PlayingValue g.row.S.Denot g.row.K.Denot). x.graph) c.self.view_is in
     let still = still_whole work.announces (has_failed work.part) (has_failed c.run-done.result.part) c.run-done.result.fault whole (sym c.fault-fault.ensures ∙ c.in-None-fault.is) run.failed (λ a. ap has_failed (run.unstepped a)) in
-    subst (λ (k : Shown g.row.S.Denot g.row.K.Denot Progress). (n : ℕ) → (ObjectStays g.S.Source.size g.S.Source.told g.S.Source.ends g.S.Source.offset g.S.Source.faults g.K.Sink.name g.K.Sink.faults) (unfailed (file_of n k)) (unfailed (file_of n c.finish.new.self))) viewed
-    (work_stays (ObjectStays g.S.Source.size g.S.Source.told g.S.Source.ends g.S.Source.offset g.S.Source.faults g.K.Sink.name g.K.Sink.faults) (object_itself g.S.Source.size g.S.Source.told g.S.Source.ends g.S.Source.offset g.S.Source.faults g.K.Sink.name g.K.Sink.faults) c.self.inside.graph c.claim.new.self c.finish.new.self h.generation before after whole file back c.claim.ensures.files comes run.kept still)
+    subst (λ (k : Shown g.row.S.Denot g.row.K.Denot Progress). (n : ℕ) → (ObjectStays g.S.Source.name g.S.Source.size g.S.Source.told g.S.Source.ends g.S.Source.offset g.S.Source.faults g.K.Sink.name g.K.Sink.faults) (unfailed (file_of n k)) (unfailed (file_of n c.finish.new.self))) viewed
+    (work_stays (ObjectStays g.S.Source.name g.S.Source.size g.S.Source.told g.S.Source.ends g.S.Source.offset g.S.Source.faults g.K.Sink.name g.K.Sink.faults) (object_itself g.S.Source.name g.S.Source.size g.S.Source.told g.S.Source.ends g.S.Source.offset g.S.Source.faults g.K.Sink.name g.K.Sink.faults) c.self.inside.graph c.claim.new.self c.finish.new.self h.generation before after whole file back c.claim.ensures.files comes run.kept still)
