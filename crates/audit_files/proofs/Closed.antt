@@ -19,6 +19,7 @@ use Rattle.play_result_laws.specs.Files.{written_by}
 use Rattle.play_files.specs.Closing.{AreClosed, IsSinkAt, failed_reads}
 use Rattle.play_files.specs.Opening.{AreRead, HasAt, IsReadFor, IsStill}
 use Rattle.play_files.specs.Seen.{FileSeen, SinkSeen, Writes, file_seen, files_seen}
+use Rattle.play_files.proofs.Closings.{unread_names}
 use Rattle.play_files.proofs.Stopped.{unseen_at}
 use Rattle.compared_files.specs.Comparing.{ComparingValue}
 use Rattle.audit_files.specs.Compared.{HaveCompared, IsComparedBy, compared, read_seen}
@@ -71,15 +72,20 @@ module _ {S : Type 0} (g : SourceGhosts S) where
       let u = unseen_at (read_seen g) entries place file e in
       sym (ap failed_reads u.2) ∙ each place u.0 u.1
 
+  pub all_calm : (entries : List Entry) → ((place : ℕ) (file : Entry) → slice_get entries place ≡ Some file → failed_reads (option_map (read_seen g) file) ≡ 0) → sum_by failed_reads (files_seen (read_seen g) entries) ≡ 0
+  all_calm entries each = none_failed (files_seen (read_seen g) entries) (entry_calm entries each)
+
   -- none failed, and so closing them leaves all as it was
   pub closed_still : (entries : List Entry) (mid new : Outside) → ((place : ℕ) (file : Entry) → slice_get entries place ≡ Some file → failed_reads (option_map (read_seen g) file) ≡ 0)
       → AreClosed (files_seen (read_seen g) entries) mid new (Ok tt) → IsStill mid new
   closed_still entries mid new each C =
       let none = C.unwritten (λ place sink at. (let u = unseen_at (read_seen g) entries place (Some (Writes sink at.0)) at.1 in no_sink_seen u.0 sink at.0 u.2)) in
+      let calm = all_calm entries each in
       record {
         goes_on = C.goes_on;
         files = none.0;
-        reads = C.unread (none_failed (files_seen (read_seen g) entries) (entry_calm entries each));
+        reads = C.unread calm;
+        unread = unread_names (files_seen (read_seen g) entries) mid.failed_reads new.failed_reads calm C.named_reads;
         writes = none.1;
         absences = C.absences;
         failed = none.2;

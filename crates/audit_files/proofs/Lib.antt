@@ -1,4 +1,4 @@
 mod Refusals
 pub mod Writing
 mod Ready
-mod Closed
+pub mod Closed

@@ -61,6 +61,7 @@ module _ {S : Type 0} (g : SourceGhosts S) where
   untold_source : (old : Outside) (name : List ℕ) (head : WavHead) (source : SourceSeen) → IsSourceOf old name head source → IsSourceOf (untelling old) name head source
   untold_source old name head source I = record {
     offset = I.offset;
+    name_is = λ tells. absurd cc;
     fits = I.fits;
     faults = I.faults;
     told = I.told;
@@ -209,7 +210,7 @@ module _ {S : Type 0} (g : SourceGhosts S) where
       fitted = (A.gone).fitted;
       valid = (A.gone).valid;
       fit = (A.gone).fit;
-      still = record { goes_on = on; files = refl; reads = refl; writes = refl; absences = refl; failed = refl };
+      still = record { goes_on = on; files = refl; reads = refl; writes = refl; absences = refl; unread = refl; failed = refl };
       opened = all_open old plan.parts plan.frames heads (A.gone).before entries (A.gone).read (A.gone).have;
       asked = refl;
     }

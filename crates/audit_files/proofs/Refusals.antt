@@ -1,11 +1,12 @@
 -- A file that wasn't opened to be compared.
-use Rattle.std.proofs.Common.{◌≡◌, ◌≢◌, ℕ, List, Option, Some, None, IsSome, IsTrue, refl, sym, ◌∙◌, ap, subst}
+use Rattle.std.proofs.Common.{◌≡◌, ◌≢◌, ℕ, List, [], ◌∷◌, Option, Some, None, IsSome, IsTrue, refl, sym, ◌∙◌, ap, subst, arith}
 use Rattle.std.specs.List.{slice_index_or}
 use Rattle.omx_types.specs.declared.fault.Fault.{Fault}
 use Rattle.omx_types.specs.declared.fault.Fault.TheVariants as Faults
 use Rattle.omx_types.specs.declared.fault.Which.TheVariants.{Line}
 use Rattle.outside_io.specs.Causes.{Rose}
-use Rattle.outside_io.specs.Files.{GoesOn, Outside}
+use Rattle.outside_io.specs.Files.{GoesOn, Outside, with_name}
+use Rattle.outside_io.proofs.Names.{names-same}
 use Rattle.outside_io.specs.declared.media.Refused.{Refused}
 use Rattle.outside_io.specs.declared.media.Refused.TheVariants as Refusals
 use Rattle.outside_io.specs.declared.source.Source.{Ghosts as SourceGhosts}
@@ -16,27 +17,29 @@ use Rattle.play_files.specs.Faults.{fault_of_source}
 use Rattle.play_files.specs.Opening.{IsStill}
 use Rattle.play_files.specs.Seen.{SourceSeen, source_seen}
 use Rattle.play_files.proofs.Closings.{then}
-use Rattle.play_files.proofs.Fronts.{later, sooner}
+use Rattle.play_files.proofs.Fronts.{failed_later, failed_sooner, later, sooner}
 use Rattle.compared_files.specs.Comparing.{ComparingValue}
 use Rattle.audit_files.specs.Compared.{HaveCompared, IsComparedBy, IsFileOf}
 use Rattle.audit_files.specs.Left.{IsKnownFault, IsKnownRefused}
 
 known_why : (line : ℕ) (name : List ℕ) (old new : Outside) (refused : Refused) → (refused ≡ Refusals.Absent → Rose old.absences new.absences) → (refused ≡ Refusals.Absent → old.file name ≡ None)
-    → (refused ≡ Refusals.Failed → Rose old.read_faults new.read_faults) → IsKnownFault line name old new (fault_of_source line refused)
-known_why line name old new Refusals.Absent absent there failed = (refl, absent refl, there refl)
-known_why line name old new Refusals.Failed absent there failed = failed refl
-known_why line name old new Refusals.OutOfMemory absent there failed = tt
+    → (refused ≡ Refusals.Failed → Rose old.read_faults new.read_faults) → (refused ≡ Refusals.Failed → new.failed_reads ≡ with_name name 1 old.failed_reads) → IsKnownFault line name old new (fault_of_source line refused)
+known_why line name old new Refusals.Absent absent there failed named = (refl, absent refl, there refl)
+known_why line name old new Refusals.Failed absent there failed named = record { rose = failed refl; named = λ tells. names-same name 1 old.failed_reads new.failed_reads (omega arith) (named refl) }
+known_why line name old new Refusals.OutOfMemory absent there failed named = tt
 
 pub known_refused : (line : ℕ) (name : List ℕ) (old new : Outside) (refused : Refused) → GoesOn old new → new.file ≡ old.file → (refused ≡ Refusals.Absent → Rose old.absences new.absences) → (refused ≡ Refusals.Absent → old.file name ≡ None)
-    → (refused ≡ Refusals.Failed → Rose old.read_faults new.read_faults) → new.write_faults ≡ old.write_faults → new.failed_writes ≡ old.failed_writes
+    → (refused ≡ Refusals.Failed → Rose old.read_faults new.read_faults) → (refused ≡ Refusals.Failed → new.failed_reads ≡ with_name name 1 old.failed_reads)
+    → (refused ≢ Refusals.Failed → new.failed_reads ≡ old.failed_reads) → new.write_faults ≡ old.write_faults → new.failed_writes ≡ old.failed_writes
     → (refused ≢ Refusals.Absent → new.absences ≡ old.absences) → IsKnownRefused line name old new (fault_of_source line refused)
-known_refused line name old new refused on files absent there failed writes names absences = record {
+known_refused line name old new refused on files absent there failed named unread writes names absences = record {
   goes_on = on;
   files = files;
   writes = writes;
+  unread = λ n. unread (λ e. n (ap (fault_of_source line) e));
   failed = names;
   unabsent = λ none. absences (λ e. none (Line line) (ap (fault_of_source line) e));
-  why = known_why line name old new refused absent there failed;
+  why = known_why line name old new refused absent there failed named;
 }
 
 -- ---- from a media that was still until then
@@ -48,6 +51,7 @@ module _ (old mid : Outside) (S : IsStill old mid) where
   pub file_sooner : (name : List ℕ) (source : SourceSeen) → IsFileOf mid name source → IsFileOf old name source
   file_sooner name source I = record {
     offset = I.offset;
+    name_is = λ tells. I.name_is ((S.goes_on).tells ∙ tells);
     faults = I.faults;
     told = I.told ∙ file_same name;
     ends = I.ends ∙ ap (λ (f : List ℕ → Option ℕ). f name) (S.goes_on).ends;
@@ -56,7 +60,7 @@ module _ (old mid : Outside) (S : IsStill old mid) where
   }
 
   fault_sooner : (line : ℕ) (name : List ℕ) (new : Outside) (fault : Fault) → IsKnownFault line name mid new fault → IsKnownFault line name old new fault
-  fault_sooner line name new Faults.ReadFault is = later old.read_faults mid.read_faults new.read_faults ((S.goes_on).read_faults) is
+  fault_sooner line name new Faults.ReadFault is = failed_later (name ∷ []) old mid new S is
   fault_sooner line name new (Faults.Absent which) is = (is.0, later old.absences mid.absences new.absences ((S.goes_on).absences) is.1, sym (file_same name) ∙ is.2)
   fault_sooner line name new Faults.OutOfMemory is = tt
   fault_sooner line name new (Faults.BadMedia which fault) is = absurd is
@@ -73,6 +77,7 @@ module _ (old mid : Outside) (S : IsStill old mid) where
     goes_on = then old mid new S.goes_on R.goes_on;
     files = R.files ∙ S.files;
     writes = R.writes ∙ S.writes;
+    unread = λ n. R.unread n ∙ S.unread;
     failed = R.failed ∙ S.failed;
     unabsent = λ none. R.unabsent none ∙ S.absences;
     why = fault_sooner line name new fault R.why;
@@ -95,7 +100,7 @@ module _ {S : Type 0} (g : SourceGhosts S) (old mid : Outside) (S' : IsStill old
 -- ---- once what was open is closed
 
 pub known_fault_later : (line : ℕ) (name : List ℕ) (old mid new : Outside) (fault : Fault) → IsStill mid new → IsKnownFault line name old mid fault → IsKnownFault line name old new fault
-known_fault_later line name old mid new Faults.ReadFault S is = sooner old.read_faults mid.read_faults new.read_faults ((S.goes_on).read_faults) is
+known_fault_later line name old mid new Faults.ReadFault S is = failed_sooner (name ∷ []) old mid new is S
 known_fault_later line name old mid new (Faults.Absent which) S is = (is.0, sooner old.absences mid.absences new.absences ((S.goes_on).absences) is.1, is.2)
 known_fault_later line name old mid new Faults.OutOfMemory S is = tt
 known_fault_later line name old mid new (Faults.BadMedia which fault) S is = absurd is

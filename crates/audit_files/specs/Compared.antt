@@ -22,6 +22,7 @@ use Rattle.compared_files.specs.Comparing.{ComparingValue, known_by, told_by}
 -- the file of that name, from its first byte on
 pub record IsFileOf (old : Outside) (name : List ℕ) (source : SourceSeen) : Type 0 where
   pub offset : source.offset ≡ 0
+  pub name_is : IsTrue old.tells → source.name ≡ name
   pub faults : source.faults ≡ 0
   pub told : source.told ≡ old.file name
   pub ends : source.ends ≡ old.ends name
@@ -32,7 +33,7 @@ pub record IsFileOf (old : Outside) (name : List ℕ) (source : SourceSeen) : Ty
 abbrev pub compared : {S : Type 0} → SourceGhosts S → SinkGhosts (ComparingValue S)
 compared reads = record {
   told = λ snk. told_by (reads.told snk.src) snk;
-  name = λ snk. known_by (reads.told snk.src) (reads.ends snk.src);
+  name = λ snk. known_by (reads.name snk.src) (reads.told snk.src) (reads.ends snk.src);
   faults = λ snk. snk.failed;
   writing = λ snk. None;
 }

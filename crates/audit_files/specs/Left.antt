@@ -1,10 +1,10 @@
 -- What the opening of files for a comparison leaves where it wasn't done whole.
-use Rattle.std.specs.Prelude.{◌≡◌, ◌≢◌, ◌⊎◌, ℕ, ◌+◌, ◌<◌, List, ◌++◌, length, slice_get, take, Option, Some, None, IsSome, IsTrue}
+use Rattle.std.specs.Prelude.{◌≡◌, ◌≢◌, ◌⊎◌, ℕ, ◌+◌, ◌<◌, List, [], ◌∷◌, ◌++◌, length, slice_get, take, Option, Some, None, IsSome, IsTrue}
 use Rattle.omx_types.specs.declared.fault.Fault.{Fault}
 use Rattle.omx_types.specs.declared.fault.Fault.TheVariants as Faults
 use Rattle.omx_types.specs.declared.fault.Which.TheVariants.{Line}
 use Rattle.outside_io.specs.Causes.{Rose}
-use Rattle.outside_io.specs.Files.{GoesOn, Outside, TellsAbsence}
+use Rattle.outside_io.specs.Files.{GoesOn, IsFailedRead, Outside, TellsAbsence}
 use Rattle.outside_io.specs.declared.source.Source.{Ghosts as SourceGhosts}
 use Rattle.wav_form.specs.declared.heads.WavHead.{WavHead}
 use Rattle.audio_parts.specs.declared.part_file.PartFile.{PartFile}
@@ -23,7 +23,7 @@ use Rattle.audit_files.specs.Compared.{HaveCompared, compared}
 
 -- why the file with which the sink in that line is compared isn't open
 abbrev pub IsKnownFault : ℕ → List ℕ → Outside → Outside → Fault → Type 0
-IsKnownFault line name old new Faults.ReadFault = Rose old.read_faults new.read_faults
+IsKnownFault line name old new Faults.ReadFault = IsFailedRead (name ∷ []) old new
 IsKnownFault line name old new (Faults.Absent which) = (which ≡ Line line) × Rose old.absences new.absences × (old.file name ≡ None)
 IsKnownFault line name old new Faults.OutOfMemory = Unit {0}
 IsKnownFault line name old new other = ⊥
@@ -32,6 +32,7 @@ pub record IsKnownRefused (line : ℕ) (name : List ℕ) (old new : Outside) (fa
   pub goes_on : GoesOn old new
   pub files : new.file ≡ old.file
   pub writes : new.write_faults ≡ old.write_faults
+  pub unread : fault ≢ Faults.ReadFault → new.failed_reads ≡ old.failed_reads
   pub failed : new.failed_writes ≡ old.failed_writes
   pub unabsent : TellsAbsence Faults.Absent old new fault
   pub why : IsKnownFault line name old new fault
@@ -87,6 +88,7 @@ pub record IsUnmatched (planned : PlanValue) (old new : Outside) (fault : Fault)
   pub goes_on : GoesOn old new
   pub files : new.file ≡ old.file
   pub written : new.write_faults ≡ old.write_faults
+  pub unread : fault ≢ Faults.ReadFault → new.failed_reads ≡ old.failed_reads
   pub unabsent : TellsAbsence Faults.Absent old new fault
   pub part : PartLine
   pub place : ℕ

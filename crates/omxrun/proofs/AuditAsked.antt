@@ -10,11 +10,9 @@ use Rattle.omx_types.specs.declared.fault.Status.TheVariants as Statuses
 use Rattle.omx_types.specs.declared.fault.Which.TheVariants as Files
 use Rattle.script_lang.specs.declared.play_line.PartLine.{PartLine}
 use Rattle.script_lang.specs.declared.script.Script.{Script}
-use Rattle.wav_form.specs.declared.heads.WavHead.{WavHead}
-use Rattle.play_files.specs.Left.{HaveHeads}
-use Rattle.play_files.specs.Opening.{HasHead}
+use Rattle.play_files.proofs.FittedPlans.{fitted_later}
 use Rattle.audit_forms.specs.Audited.{Verdict, Yes, No}
-use Rattle.run_audit.specs.Faults.{AreThere, Asks, GiveHeads, GivesHead, GivesUpTo, HasSources, IsBadSource, IsFitBy, IsMisfitBy}
+use Rattle.run_audit.specs.Faults.{AreThere, Asks, GiveHeads, GivesHead, GivesUpTo, IsBadLog, IsBadSource, IsFitBy}
 use Rattle.run_audit.proofs.FaultOfCall.{fault_asked, unjudged}
 use Rattle.run_audit.proofs.FaultOfFile.{IsOr, none_there}
 use Rattle.omxrun.specs.Asked.{IsFaultless, IsOrMemory}
@@ -36,17 +34,11 @@ module _ (old mid : Outside) (files : mid.file ≡ old.file) (ends : mid.ends �
   gives-later : (name : List ℕ) (count : ℕ) → GivesUpTo old name count → GivesUpTo mid name count
   gives-later name count (end, told, after) = (end, ap (λ (f : List ℕ → Option ℕ). f name) ends ∙ told, after)
 
-  heads-later : (parts : List PartLine) (count : ℕ) → GiveHeads old parts count → GiveHeads mid parts count
+  pub heads-later : (parts : List PartLine) (count : ℕ) → GiveHeads old parts count → GiveHeads mid parts count
   heads-later parts count H place name low reader =
       let G = H place name low reader in
       let (bytes, held, reads) = G.held in
       record { head = G.head; held = (bytes, file-at name ∙ held, reads); given = gives-later name (G.head).start G.given }
-
-  have-before : (parts : List PartLine) (count : ℕ) (heads : List WavHead) → HaveHeads mid parts count heads → HaveHeads old parts count heads
-  have-before parts count heads H told place name low reader =
-      let (head, at, has) = H (tells ∙ told) place name low reader in
-      let (bytes, held, reads) = has in
-      (head, at, (bytes, sym (file-at name) ∙ held, reads))
 
   bad-later : (line : ℕ) (name : List ℕ) (fault : Fault) → IsBadSource line name old fault → IsBadSource line name mid fault
   bad-later line name (Faults.Absent which) B = (B.0, file-at name ∙ B.1)
@@ -63,14 +55,26 @@ module _ (old mid : Outside) (files : mid.file ≡ old.file) (ends : mid.ends �
   bad-later line name (Faults.Packets reason) B = absurd B
   bad-later line name (Faults.NotRun at why) B = absurd B
 
+  log-later : (log : List ℕ) (fault : Fault) → IsBadLog log old fault → IsBadLog log mid fault
+  log-later log (Faults.Absent which) B = (B.0, file-at log ∙ B.1)
+  log-later log (Faults.Short which at size) B =
+      (let C = B.1 in
+      (B.0, record { bytes = C.bytes; held = file-at log ∙ C.held; whole = C.whole; told_end = ap (λ (f : List ℕ → Option ℕ). f log) ends ∙ C.told_end; early = C.early }))
+  log-later log (Faults.Script at why) B = absurd B
+  log-later log Faults.Usage B = absurd B
+  log-later log (Faults.BadMedia which wav) B = absurd B
+  log-later log Faults.ReadFault B = absurd B
+  log-later log Faults.WriteFault B = absurd B
+  log-later log Faults.OutOfMemory B = absurd B
+  log-later log (Faults.Units have need) B = absurd B
+  log-later log (Faults.Packets reason) B = absurd B
+  log-later log (Faults.NotRun at why) B = absurd B
+
   pub there-later : (parts : List PartLine) (count : ℕ) → AreThere old parts count → AreThere mid parts count
   there-later parts count T place name low writer = subst (λ (o : Option (List ℕ)). IsSome o) (sym (file-at name)) (T place name low writer)
 
-  pub sources-later : (script : Script) → HasSources script old → HasSources script mid
-  sources-later script H = record { plan = H.plan; is_plan = H.is_plan; sources = heads-later _ _ H.sources }
-
   pub fits-later : (script : Script) → IsFitBy script old → IsFitBy script mid
-  fits-later script F planned fitted heads why is have = F planned fitted heads why is (have-before planned.parts (length planned.parts) heads have)
+  fits-later script F = record { fitted = F.fitted; fits_to = fitted_later script old mid F.fitted files tells F.fits_to; fit = F.fit }
 
   asks-later : (script : Script) (log : List ℕ) (fault : Fault) → Asks script log old fault → Asks script log mid fault
   asks-later script log fault (inl A) = inl A
@@ -86,13 +90,15 @@ module _ (old mid : Outside) (files : mid.file ≡ old.file) (ends : mid.ends �
     bad = bad-later (A.part).line A.name fault A.bad;
   }))
   asks-later script log fault (inr (inr (inl A))) = inr (inr (inl (record {
-    has = sources-later script A.has;
+    sources = heads-later _ _ A.sources;
+    fitted = A.fitted;
+    fits_to = fitted_later script old mid A.fitted files tells A.fits_to;
     why = A.why;
-    misfits = λ planned fitted heads is have. A.misfits planned fitted heads is (have-before planned.parts (length planned.parts) heads have);
+    misfits = A.misfits;
     told = A.told;
   })))
   asks-later script log fault (inr (inr (inr (inl A)))) = inr (inr (inr (inl (record {
-    has = sources-later script A.has;
+    sources = heads-later _ _ A.sources;
     fits = fits-later script A.fits;
     place = A.place;
     part = A.part;
@@ -104,11 +110,10 @@ module _ (old mid : Outside) (files : mid.file ≡ old.file) (ends : mid.ends �
     told = A.told;
   }))))
   asks-later script log fault (inr (inr (inr (inr A)))) = inr (inr (inr (inr (record {
-    has = sources-later script A.has;
+    sources = heads-later _ _ A.sources;
     fits = fits-later script A.fits;
     sinks = there-later _ _ A.sinks;
-    absent = file-at log ∙ A.absent;
-    told = A.told;
+    bad = log-later log fault A.bad;
   }))))
 
 -- ---- a verdict, or none
@@ -141,7 +146,7 @@ module _ (play_once : PlayOnce) (name log : List ℕ) (old new : Outside) (befor
   script-absent (Faults.Script line why) tells absent is = (let N = is.1 tells in absurd (none-some N.bytes (old.file name) absent N.held))
   script-absent Faults.Usage tells absent is = absurd is
   script-absent (Faults.BadMedia which wav) tells absent is = absurd is
-  script-absent Faults.ReadFault tells absent is = absurd (none.read is)
+  script-absent Faults.ReadFault tells absent is = absurd (none.read is.rose)
   script-absent Faults.WriteFault tells absent is = absurd is
   script-absent (Faults.Absent Files.Script) tells absent is = inl refl
   script-absent (Faults.Absent Files.Log) tells absent is = absurd is

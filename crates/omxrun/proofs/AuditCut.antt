@@ -12,8 +12,8 @@ use Rattle.play_course.specs.Settling.{parts_of}
 use Rattle.audit_forms.specs.Audited.{Verdict, Yes, No}
 use Rattle.audit_forms.specs.Whole.{IsAudited}
 use Rattle.run_audit.specs.Auditing.{IsLogFault, IsStepFault, IsUnaudited}
-use Rattle.run_audit.specs.Faults.{AreThere, HasSources, IsFitBy}
-use Rattle.run_audit.proofs.FaultOfCall.{sources_memory, unplanned_memory, writes_there}
+use Rattle.run_audit.specs.Faults.{AreThere, GiveHeads, IsFitBy}
+use Rattle.run_audit.proofs.FaultOfCall.{sources_memory, unfit_never, unplanned_memory, writes_there}
 use Rattle.run_audit.proofs.FaultOfFile.{IsCalm, known_given, none_there}
 use Rattle.run_audit.proofs.Outcome.{parts_so}
 use Rattle.omxrun.specs.Asked.{IsFaultless}
@@ -21,7 +21,7 @@ use Rattle.omxrun.specs.AuditFaults.{HasCutSink, IsShortOrMemory}
 use Rattle.omxrun.specs.Audits.{IsAuditOutcome, IsDecided, IsUndecided}
 use Rattle.omxrun.specs.Reports.{IsReported}
 use Rattle.omxrun.specs.declared.done.Done.{Done}
-use Rattle.omxrun.proofs.AuditAsked.{fits-later, is-yes, no-or-none, sources-later, there-later}
+use Rattle.omxrun.proofs.AuditAsked.{fits-later, heads-later, is-yes, no-or-none, there-later}
 use Rattle.omxrun.proofs.Complete.{told-status}
 use Rattle.omxrun.proofs.PlayEnds.{PlayOnce, calm-later, calm-of, read-same, script-last}
 
@@ -30,7 +30,7 @@ IsShort fault = ((which : Which) × (at : ℕ) × (size : ℕ) × (fault ≡ Fau
 
 log-short : (log : List ℕ) (old new : Outside) (fault : Fault) → IsCalm old new → IsSome (old.file log) → IsLogFault log old new fault → IsShort fault
 log-short log old new (Faults.Short which at size) calm there is = inl (which, at, size, refl)
-log-short log old new Faults.ReadFault calm there is = absurd (calm is)
+log-short log old new Faults.ReadFault calm there is = absurd (calm is.rose)
 log-short log old new (Faults.Absent which) calm there is = absurd (none_there (old.file log) is.2 there)
 log-short log old new Faults.OutOfMemory calm there is = inr refl
 log-short log old new (Faults.BadMedia which wav) calm there is = absurd is
@@ -43,7 +43,7 @@ log-short log old new (Faults.NotRun at why) calm there is = absurd is
 
 step-short : (parts : List PartLine) (old new : Outside) (fault : Fault) → IsCalm old new → IsStepFault parts old new fault → IsShort fault
 step-short parts old new (Faults.Short which at size) calm is = inl (which, at, size, refl)
-step-short parts old new Faults.ReadFault calm is = absurd (calm is)
+step-short parts old new Faults.ReadFault calm is = absurd (calm is.rose)
 step-short parts old new Faults.OutOfMemory calm is = inr refl
 step-short parts old new (Faults.Absent which) calm is = absurd is
 step-short parts old new (Faults.BadMedia which wav) calm is = absurd is
@@ -55,16 +55,16 @@ step-short parts old new (Faults.Packets reason) calm is = absurd is
 step-short parts old new (Faults.NotRun at why) calm is = absurd is
 
 -- once the script was read
-unaudited-short : (script : Script) (log : List ℕ) (mid new : Outside) (fault : Fault) → IsTrue mid.tells → IsCalm mid new → HasSources script mid → IsFitBy script mid → AreThere mid (parts_of script) (length (parts_of script)) → IsSome (mid.file log)
+unaudited-short : (script : Script) (log : List ℕ) (mid new : Outside) (fault : Fault) → IsTrue mid.tells → IsCalm mid new → GiveHeads mid (parts_of script) (length (parts_of script)) → IsFitBy script mid → AreThere mid (parts_of script) (length (parts_of script)) → IsSome (mid.file log)
     → IsUnaudited script log mid new fault → IsShort fault
-unaudited-short script log mid new fault tells calm has fits sinks there (inl (inl U)) = inr (unplanned_memory script log mid new tells calm fault has.plan has.is_plan U)
-unaudited-short script log mid new fault tells calm has fits sinks there (inl (inr (planned, is, inl U))) = inr (sources_memory script log mid new tells calm fault has planned is U)
-unaudited-short script log mid new fault tells calm has fits sinks there (inl (inr (planned, is, inr (inl U)))) = absurd (fits planned U.plan U.heads U.why is U.have U.fitted U.is)
-unaudited-short script log mid new fault tells calm has fits sinks there (inl (inr (planned, is, inr (inr U)))) =
+unaudited-short script log mid new fault tells calm give fits sinks there (inl (inl U)) = inr (unplanned_memory script log mid new tells calm fault (fits.fits_to).planned (fits.fits_to).is_plan U)
+unaudited-short script log mid new fault tells calm give fits sinks there (inl (inr (planned, is, inl U))) = inr (sources_memory script log mid new tells calm fault give planned is U)
+unaudited-short script log mid new fault tells calm give fits sinks there (inl (inr (planned, is, inr (inl U)))) = absurd (unfit_never script log mid new tells calm fault fits planned is U)
+unaudited-short script log mid new fault tells calm give fits sinks there (inl (inr (planned, is, inr (inr U)))) =
     let (low, writer) = writes_there script log mid new tells calm fault (U.plan).parts U.place U.name ((U.fitted).parts ∙ parts_so script planned is) (U.part, U.there, U.writes) in
     inr (known_given (U.part).line U.name mid new tells calm fault (sinks U.place U.name low writer) U.why)
-unaudited-short script log mid new fault tells calm has fits sinks there (inr (inl U)) = log-short log mid new fault calm there U.why
-unaudited-short script log mid new fault tells calm has fits sinks there (inr (inr U)) = step-short (U.plan).parts mid new fault calm U.why
+unaudited-short script log mid new fault tells calm give fits sinks there (inr (inl U)) = log-short log mid new fault calm there U.why
+unaudited-short script log mid new fault tells calm give fits sinks there (inr (inr U)) = step-short (U.plan).parts mid new fault calm U.why
 
 module _ (play_once : PlayOnce) (name log : List ℕ) (old new : Outside) (before now : ℕ) (none : IsFaultless old new before now) (cut : HasCutSink name log old) where
   undecided-short : (fault : Fault) → IsUndecided name log old new fault → IsShort fault
@@ -75,7 +75,7 @@ module _ (play_once : PlayOnce) (name log : List ℕ) (old new : Outside) (befor
       let ends = (W.goes_on).ends in
       let tells = (W.goes_on).tells in
       unaudited-short cut.script log mid new fault (tells ∙ (cut.asked).tells) ((calm-later name log old mid new script W before now none).read)
-      (sources-later old mid files ends tells cut.script cut.has) (fits-later old mid files ends tells cut.script cut.fits) (there-later old mid files ends tells (parts_of cut.script) (length (parts_of cut.script)) cut.sinks)
+      (heads-later old mid files ends tells (parts_of cut.script) (length (parts_of cut.script)) cut.sources) (fits-later old mid files ends tells cut.script cut.fits) (there-later old mid files ends tells (parts_of cut.script) (length (parts_of cut.script)) cut.sinks)
       (subst (λ (f : List ℕ → Option (List ℕ)). IsSome (f log)) (sym files) cut.log_there)
       (subst (λ (s : Script). IsUnaudited s log mid new fault) e U)
 

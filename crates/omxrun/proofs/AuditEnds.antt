@@ -1,5 +1,5 @@
 -- Where all is told and given whole and no count rises, the check of a log comes to its verdict.
-use Rattle.std.proofs.Common.{◌≡◌, ◌⊎◌, inl, inr, ℕ, List, length, Option, Result, Ok, Err, IsTrue, ap, sym, subst, refl, ◌∙◌, arith}
+use Rattle.std.proofs.Common.{◌≡◌, ◌⊎◌, inl, inr, ℕ, List, Option, Result, Ok, Err, IsTrue, ap, subst, refl, ◌∙◌, arith}
 use Rattle.outside_io.specs.Causes.{Rose}
 use Rattle.outside_io.specs.Files.{Outside}
 use Rattle.omx_types.specs.declared.fault.AuditWhy.{AuditWhy}
@@ -9,11 +9,10 @@ use Rattle.omx_types.specs.declared.fault.Status.{Status}
 use Rattle.omx_types.specs.declared.fault.Status.TheVariants as Statuses
 use Rattle.script_lang.specs.declared.play_line.PartLine.{PartLine}
 use Rattle.script_lang.specs.declared.script.Script.{Script}
-use Rattle.wav_form.specs.declared.heads.WavHead.{WavHead}
-use Rattle.play_forms.specs.declared.plan_fault.PlanFault.{PlanFault}
-use Rattle.play_forms.specs.Plans.{IsFitFault, IsFitted, IsPlanOfScript, PlanValue}
+use Rattle.play_forms.specs.Plans.{IsFit, PlanValue}
 use Rattle.play_result_laws.specs.Files.{IsReader, IsWriter}
-use Rattle.play_files.specs.Left.{HaveHeads}
+use Rattle.play_files.specs.Left.{IsFittedTo}
+use Rattle.play_files.proofs.FittedPlans.{fits_so}
 use Rattle.play_course.specs.Settling.{parts_of}
 use Rattle.audit_files.specs.Left.{IsKnownFault}
 use Rattle.audit_forms.specs.Audited.{Verdict, Yes, No}
@@ -26,7 +25,7 @@ use Rattle.omxrun.specs.Reports.{IsReported, status_of}
 use Rattle.omxrun.specs.declared.done.Done.{Done}
 use Rattle.omxrun.proofs.AuditAsked.{is-yes, no-or-none}
 use Rattle.omxrun.proofs.Complete.{ReadsOnce, none-some, told-status}
-use Rattle.omxrun.proofs.PlayEnds.{IsCalm, PlansOnce, PlayOnce, calm-later, calm-of, given-later, heads-before, read-same, reader-in, script-last, short-script, sound-last, sound-later, unplanned-last, writer-in}
+use Rattle.omxrun.proofs.PlayEnds.{IsCalm, PlansOnce, PlayOnce, calm-later, calm-of, fitted-in, given-later, read-same, reader-in, script-last, short-script, sound-last, sound-later, unplanned-last, writer-in}
 
 -- ---- one file
 
@@ -34,7 +33,7 @@ known-last : (line : ℕ) (name bytes : List ℕ) (old new : Outside) (fault : F
 known-last line name bytes old new (Faults.Script at why) calm given is = absurd is
 known-last line name bytes old new Faults.Usage calm given is = absurd is
 known-last line name bytes old new (Faults.BadMedia which wav) calm given is = absurd is
-known-last line name bytes old new Faults.ReadFault calm given is = absurd (calm.read is)
+known-last line name bytes old new Faults.ReadFault calm given is = absurd (calm.read is.rose)
 known-last line name bytes old new Faults.WriteFault calm given is = absurd is
 known-last line name bytes old new (Faults.Absent which) calm given is = absurd (none-some bytes (old.file name) is.2 given.held)
 known-last line name bytes old new Faults.OutOfMemory calm given is = refl
@@ -47,7 +46,7 @@ log-last : (log bytes : List ℕ) (old new : Outside) (fault : Fault) → IsCalm
 log-last log bytes old new (Faults.Script at why) calm given is = absurd is
 log-last log bytes old new Faults.Usage calm given is = absurd is
 log-last log bytes old new (Faults.BadMedia which wav) calm given is = absurd is
-log-last log bytes old new Faults.ReadFault calm given is = absurd (calm.read is)
+log-last log bytes old new Faults.ReadFault calm given is = absurd (calm.read is.rose)
 log-last log bytes old new Faults.WriteFault calm given is = absurd is
 log-last log bytes old new (Faults.Absent which) calm given is = absurd (none-some bytes (old.file log) is.2 given.held)
 log-last log bytes old new Faults.OutOfMemory calm given is = refl
@@ -65,7 +64,7 @@ step-last : (parts : List PartLine) (old new : Outside) (fault : Fault) → IsCa
 step-last parts old new (Faults.Script at why) calm given is = absurd is
 step-last parts old new Faults.Usage calm given is = absurd is
 step-last parts old new (Faults.BadMedia which wav) calm given is = absurd is
-step-last parts old new Faults.ReadFault calm given is = absurd (calm.read is)
+step-last parts old new Faults.ReadFault calm given is = absurd (calm.read is.rose)
 step-last parts old new Faults.WriteFault calm given is = absurd is
 step-last parts old new (Faults.Absent which) calm given is = absurd is
 step-last parts old new Faults.OutOfMemory calm given is = refl
@@ -82,22 +81,21 @@ step-last parts old new (Faults.NotRun at why) calm given is = absurd is
 -- what is asked of the files of a script's plan
 record IsLet (script : Script) (log : List ℕ) (mid : Outside) : Type 0 where
   tells : IsTrue mid.tells
-  plan : PlanValue
-  is_plan : IsPlanOfScript script plan
   sources : (place : ℕ) (file : List ℕ) → IsReader (parts_of script) place file → IsSound mid file
-  fits : (planned fitted : PlanValue) (heads : List WavHead) (why : PlanFault) → IsPlanOfScript script planned
-      → HaveHeads mid planned.parts (length planned.parts) heads → IsFitted planned heads fitted → IsFitFault fitted why → ⊥
+  fitted : PlanValue
+  fits_to : IsFittedTo script mid fitted
+  fits : IsFit fitted
   sinks : (place : ℕ) (file : List ℕ) → IsWriter (parts_of script) place file → (bytes : List ℕ) × IsGiven mid file bytes
   written_log : List ℕ
   log_given : IsGiven mid log written_log
 
 module _ (reads_once : ReadsOnce) (plans_once : PlansOnce) (script : Script) (log : List ℕ) (mid new : Outside) (fault : Fault) (calm : IsCalm mid new) (L : IsLet script log mid) where
   unaudited-last : IsUnaudited script log mid new fault → fault ≡ Faults.OutOfMemory
-  unaudited-last (inl (inl U)) = unplanned-last plans_once script mid new fault L.plan L.is_plan U
+  unaudited-last (inl (inl U)) = unplanned-last plans_once script mid new fault (L.fits_to).planned (L.fits_to).is_plan U
   unaudited-last (inl (inr (planned, is, inl U))) =
       let M = U.met in
       sound-last reads_once (M.part).line M.name mid new fault L.tells calm (L.sources U.place M.name (reader-in script planned planned U.place M.name is refl (M.part, M.there, M.reads))) (M.refused).why
-  unaudited-last (inl (inr (planned, is, inr (inl U)))) = absurd (L.fits planned U.plan U.heads U.why is U.have U.fitted U.is)
+  unaudited-last (inl (inr (planned, is, inr (inl U)))) = absurd (fits_so script mid L.fitted L.tells L.fits_to planned U.plan U.heads is U.have U.fitted L.fits U.why U.is)
   unaudited-last (inl (inr (planned, is, inr (inr U)))) =
       let (bytes, g) = L.sinks U.place U.name (writer-in script planned U.plan U.place U.name is (U.fitted).parts (U.part, U.there, U.writes)) in
       known-last (U.part).line U.name bytes mid new fault calm g U.why
@@ -115,10 +113,10 @@ can-let name log old mid new script W can e =
     let tells = (can.asked).tells in
     record {
       tells = (W.goes_on).tells ∙ tells;
-      plan = can.plan;
-      is_plan = subst (λ (s : Script). IsPlanOfScript s can.plan) (sym e) can.is_plan;
       sources = λ place file reader. sound-later name log old mid new script W file (can.sources place file (subst (λ (s : Script). IsReader (parts_of s) place file) e reader));
-      fits = λ planned fitted heads why is have. can.fits planned fitted heads why (subst (λ (s : Script). IsPlanOfScript s planned) e is) (heads-before name log old mid new script W tells planned.parts (length planned.parts) heads have);
+      fitted = can.fitted;
+      fits_to = fitted-in name log old mid new script W can.script can.fitted e can.fits_to;
+      fits = can.fits;
       sinks = λ place file writer. (let (bytes, g) = can.sinks place file (subst (λ (s : Script). IsWriter (parts_of s) place file) e writer) in (bytes, given-later name log old mid new script W file bytes g));
       written_log = can.written_log;
       log_given = given-later name log old mid new script W log can.written_log can.log_given;

@@ -141,6 +141,7 @@ decided-of name log old mid new script verdict W J = record {
   mid = mid;
   read = W;
   judged = J;
+  log_given = λ tells known is end at. J.log_given ((W.goes_on).tells ∙ tells) known (at-name mid.file old.file log W.files ∙ is) end (ap (λ (f : List ℕ → Option ℕ). f log) (W.goes_on).ends ∙ at);
   told = λ tells. audited-in old mid W.files name log verdict (J.told ((W.goes_on).tells ∙ tells) name W.text (at-name mid.file old.file name W.files ∙ W.held tells) W.is);
 }
 

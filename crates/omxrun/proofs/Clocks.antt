@@ -138,7 +138,7 @@ left-fault : (name bytes : List ℕ) (old new : Outside) (fault : Fault) → IsT
 left-fault name bytes old new (Faults.Script line why) tells given none reason =
     let is = reason.1 tells in
     inr (line, why, refl, subst (λ (b : List ℕ). IsFaulty b line why) (same-text is.bytes bytes (old.file name) is.held given.held) is.faulty)
-left-fault name bytes old new Faults.ReadFault tells given none reason = absurd (none reason)
+left-fault name bytes old new Faults.ReadFault tells given none reason = absurd (none reason.rose)
 left-fault name bytes old new (Faults.Absent Files.Script) tells given none reason = absurd (none-some bytes (old.file name) reason.1 given.held)
 left-fault name bytes old new (Faults.Absent Files.Log) tells given none reason = absurd reason
 left-fault name bytes old new (Faults.Absent (Files.Line line)) tells given none reason = absurd reason

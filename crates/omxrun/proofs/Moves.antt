@@ -1,11 +1,12 @@
 -- What packing and unpacking the files that were opened come to.
-use Rattle.std.proofs.Common.{◌≡◌, ◌≢◌, ◌⊎◌, inl, inr, ℕ, ◌<◌, ◌≤◌, List, [], length, take, Option, Some, Result, Ok, Err, OnOk, OnErr, IfOk, IfErr, IsTrue, IsSome, ap, sym, subst, refl, ◌∙◌, arith}
+use Rattle.std.proofs.Common.{◌≡◌, ◌≢◌, ◌⊎◌, inl, inr, ℕ, ◌<◌, ◌≤◌, List, [], ◌∷◌, length, take, Option, Some, Result, Ok, Err, OnOk, OnErr, IfOk, IfErr, IsTrue, IsSome, ap, sym, subst, refl, ◌∙◌, arith}
 use Rattle.std.proofs.lemmas.Bool.{cases_lt}
 use Rattle.std.specs.Io.KnownBytes.{append_known}
 use Rattle.outside_io.specs.Causes.{Rose, sum_of_counts}
-use Rattle.outside_io.specs.Files.{AbsencesStand, CountsStand, GoesOn, IsFrontOf, Outside, SameBut}
+use Rattle.outside_io.specs.Files.{AbsencesStand, CountsStand, GoesOn, IsFailedRead, IsFrontOf, Outside, SameBut, with_name}
 use Rattle.outside_io.specs.Moves.{AppendsFront, WhereTold}
 use Rattle.outside_io.proofs.Closed.{told_value}
+use Rattle.outside_io.proofs.Names.{names-same}
 use Rattle.omx_types.specs.declared.fault.Fault.{Fault}
 use Rattle.omx_types.specs.declared.fault.Fault.TheVariants as Faults
 use Rattle.omx_types.specs.declared.fault.PacketsWhy.{PacketsWhy}
@@ -100,11 +101,21 @@ pub record IsCounted (input : List ℕ) (old new : Outside) (size : ℕ) (told :
   pub ends_are : ends ≡ old.ends input
   pub there : IsTrue old.tells → IsSome (old.file input)
   pub sized : WhereTold (old.file input) (λ bytes. size ≡ length bytes)
-  pub read : Rose rb rn → Rose old.read_faults new.read_faults
+  pub read : Rose rb rn → IsFailedRead (input ∷ []) old new
   pub write : Rose wb wn → Rose old.write_faults new.write_faults
 
-pub read-rose : (old mid new before now : ℕ) → before ≡ 0 → old ≤ mid → new ≡ sum_of_counts mid now → Rose before now → Rose old new
+read-rose : (old mid new before now : ℕ) → before ≡ 0 → old ≤ mid → new ≡ sum_of_counts mid now → Rose before now → Rose old new
 read-rose old mid new before now none le is rose = grind (arith, none, le, is, rose)
+
+-- a failed read of the input is named by it, once that is closed
+pub read-failed : (input name : List ℕ) (old mid new : Outside) (before now : ℕ) → before ≡ 0 → GoesOn old mid → new.read_faults ≡ sum_of_counts mid.read_faults now → (IsTrue old.tells → name ≡ input)
+    → mid.failed_reads ≡ old.failed_reads → new.failed_reads ≡ with_name name now mid.failed_reads → Rose before now → IsFailedRead (input ∷ []) old new
+read-failed input name old mid new before now none on is named still names rose =
+    let some : 1 ≤ now = grind (arith, none, rose) in
+    record {
+      rose = read-rose old.read_faults mid.read_faults new.read_faults before now none on.read_faults is rose;
+      named = λ tells. names-same input now old.failed_reads new.failed_reads some (names ∙ (ap (with_name name now) still ∙ ap (λ (n : List ℕ). with_name n now old.failed_reads) (named tells)));
+    }
 
 pub write-rose : (old mid new before now : ℕ) → before ≡ 0 → old ≤ mid → sum_of_counts mid now ≤ new → Rose before now → Rose old new
 write-rose old mid new before now none le is rose = grind (arith, none, le, is, rose)

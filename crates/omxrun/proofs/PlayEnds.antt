@@ -30,11 +30,12 @@ use Rattle.play_forms.specs.Plans.{IsFaultOfScript, IsFit, IsFitFault, IsFitted,
 use Rattle.play_plan_laws.specs.Assemblies.{PlayFiles}
 use Rattle.play_result_laws.specs.Files.{AreFiles, IsReader, IsWriter, read_by}
 use Rattle.play_files.specs.Faults.{fault_of_plan}
-use Rattle.play_files.specs.Left.{HaveHeads, IsUnplanned, IsUnread as IsUnopenedSource, IsUnfit, IsUnwritten}
+use Rattle.play_files.specs.Left.{HaveHeads, IsFittedTo, IsUnplanned, IsUnread as IsUnopenedSource, IsUnfit, IsUnwritten}
 use Rattle.play_files.specs.Opening.{IsShortHead, IsSinkFault, IsSourceFault}
 use Rattle.play_course.specs.Outcomes.{IsLogFault, IsRunFault, IsUndone, WasOpened}
 use Rattle.play_course.specs.Settling.{parts_of}
-use Rattle.run_audit.proofs.FaultOfCall.{fitted_valid, valid_of}
+use Rattle.play_files.proofs.FittedPlans.{fits_so, fitted_later, misfits_so, valid_of}
+use Rattle.run_audit.proofs.FaultOfCall.{fitted_valid}
 use Rattle.omxrun.specs.Asked.{CanPlay, HasNoPlan, IsAsked, IsFaulty, IsFaultless, IsGiven, IsMisfitted, IsOrMemory, IsSound, IsUnread}
 use Rattle.omxrun.specs.Plays.{HasPlayReason, IsPlayOutcome, IsPlayReported, IsUnplayed, WasRead, play_text}
 use Rattle.omxrun.specs.Reports.{status_of}
@@ -100,7 +101,7 @@ sound-last once line name old new (Faults.BadMedia which wav) tells calm (bytes,
     (let (found, held, other) = is.2 tells in
     let e = once bytes (Ok head) (Err wav) reads (subst (λ (b : List ℕ). Reads b (Err wav)) (same-text found bytes (old.file name) held given.held) other) in
     absurd cc)
-sound-last once line name old new Faults.ReadFault tells calm (bytes, head, given, reads) is = absurd (calm.read is)
+sound-last once line name old new Faults.ReadFault tells calm (bytes, head, given, reads) is = absurd (calm.read is.rose)
 sound-last once line name old new Faults.WriteFault tells calm (bytes, head, given, reads) is = absurd is
 sound-last once line name old new (Faults.Absent which) tells calm (bytes, head, given, reads) is = absurd (none-some bytes (old.file name) is.2 given.held)
 sound-last once line name old new Faults.OutOfMemory tells calm (bytes, head, given, reads) is = refl
@@ -116,7 +117,7 @@ faulty-last once line name bytes bad old new (Faults.BadMedia which wav) tells c
     (let (found, held, other) = is.2 tells in
     let e = err-same wav bad (Err wav) refl (once bytes (Err wav) (Err bad) (subst (λ (b : List ℕ). Reads b (Err wav)) (same-text found bytes (old.file name) held given.held) other) reads) in
     inl (ap (λ (w : Which). Faults.BadMedia w wav) is.0 ∙ ap (Faults.BadMedia (Files.Line line)) e))
-faulty-last once line name bytes bad old new Faults.ReadFault tells calm given reads is = absurd (calm.read is)
+faulty-last once line name bytes bad old new Faults.ReadFault tells calm given reads is = absurd (calm.read is.rose)
 faulty-last once line name bytes bad old new Faults.WriteFault tells calm given reads is = absurd is
 faulty-last once line name bytes bad old new (Faults.Absent which) tells calm given reads is = absurd (none-some bytes (old.file name) is.2 given.held)
 faulty-last once line name bytes bad old new Faults.OutOfMemory tells calm given reads is = inr refl
@@ -159,7 +160,7 @@ run-last : (parts : List PartLine) (old new : Outside) (fault : Fault) → IsCal
 run-last parts old new (Faults.Script at_line why) calm given is = absurd is
 run-last parts old new Faults.Usage calm given is = absurd is
 run-last parts old new (Faults.BadMedia which wav) calm given is = absurd is
-run-last parts old new Faults.ReadFault calm given is = absurd (calm.read is)
+run-last parts old new Faults.ReadFault calm given is = absurd (calm.read is.rose)
 run-last parts old new Faults.WriteFault calm given is = absurd (calm.write is.0)
 run-last parts old new (Faults.Absent which) calm given is = absurd is
 run-last parts old new Faults.OutOfMemory calm given is = refl
@@ -192,7 +193,7 @@ script-last once name log old new script (Faults.Script at_line why) calm asked 
     absurd (no-play once name log asked.text script (fault_at at_line why) asked.is (subst (λ (b : List ℕ). PlayReadsAs name log b (Err (fault_at at_line why))) (same-text N.bytes asked.text (old.file name) N.held (asked.given).held) N.refused)))
 script-last once name log old new script Faults.Usage calm asked is = absurd is
 script-last once name log old new script (Faults.BadMedia which wav) calm asked is = absurd is
-script-last once name log old new script Faults.ReadFault calm asked is = absurd (calm.read is)
+script-last once name log old new script Faults.ReadFault calm asked is = absurd (calm.read is.rose)
 script-last once name log old new script Faults.WriteFault calm asked is = absurd is
 script-last once name log old new script (Faults.Absent Files.Script) calm asked is = absurd (none-some asked.text (old.file name) is.1 (asked.given).held)
 script-last once name log old new script (Faults.Absent Files.Log) calm asked is = absurd is
@@ -222,7 +223,7 @@ unread-last once name log old new line bad (Faults.Script at_line why) calm has 
     inl (ap (λ (f : ScriptFault). Faults.Script f.line f.why) e))
 unread-last once name log old new line bad Faults.Usage calm has is = absurd is
 unread-last once name log old new line bad (Faults.BadMedia which wav) calm has is = absurd is
-unread-last once name log old new line bad Faults.ReadFault calm has is = absurd (calm.read is)
+unread-last once name log old new line bad Faults.ReadFault calm has is = absurd (calm.read is.rose)
 unread-last once name log old new line bad Faults.WriteFault calm has is = absurd is
 unread-last once name log old new line bad (Faults.Absent Files.Script) calm has is = absurd (none-some has.bytes (old.file name) is.1 (has.given).held)
 unread-last once name log old new line bad (Faults.Absent Files.Log) calm has is = absurd is
@@ -265,10 +266,8 @@ module _ (name log : List ℕ) (old mid new : Outside) (script : Script) (W : Wa
   refuse-later : (file : List ℕ) → IsFalse (old.may_refuse file) → IsFalse (mid.may_refuse file)
   refuse-later file f = subst (λ (may : List ℕ → Bool). IsFalse (may file)) (sym (W.goes_on).may_refuse) f
 
-  pub heads-before : IsTrue old.tells → (parts : List PartLine) (count : ℕ) (heads : List WavHead) → HaveHeads mid parts count heads → HaveHeads old parts count heads
-  heads-before tells parts count heads H = λ _ place file b reader.
-      (let h = H ((W.goes_on).tells ∙ tells) place file b reader in
-      (h.0, h.1, (h.2.0, sym (ap (λ (f : List ℕ → Option (List ℕ)). f file) W.files) ∙ h.2.1, h.2.2)))
+  pub fitted-in : (asked : Script) (fitted : PlanValue) → script ≡ asked → IsFittedTo asked old fitted → IsFittedTo script mid fitted
+  fitted-in asked fitted e F = fitted_later script old mid fitted W.files (W.goes_on).tells (subst (λ (s : Script). IsFittedTo s old fitted) (sym e) F)
 
   pub calm-later : (before now : ℕ) → IsFaultless old new before now → IsCalm mid new
   calm-later before now N = record {
@@ -281,11 +280,10 @@ module _ (name log : List ℕ) (old mid new : Outside) (script : Script) (W : Wa
 -- what is asked of the sources and the names of a script's plan
 record IsLet (script : Script) (log : List ℕ) (mid : Outside) : Type 0 where
   tells : IsTrue mid.tells
-  plan : PlanValue
-  is_plan : IsPlanOfScript script plan
   sources : (place : ℕ) (file : List ℕ) → IsReader (parts_of script) place file → IsSound mid file
-  fits : (plan fitted : PlanValue) (heads : List WavHead) (why : PlanFault) → IsPlanOfScript script plan
-      → HaveHeads mid plan.parts (length plan.parts) heads → IsFitted plan heads fitted → IsFitFault fitted why → ⊥
+  fitted : PlanValue
+  fits_to : IsFittedTo script mid fitted
+  fits : IsFit fitted
   sinks : (place : ℕ) (file : List ℕ) → IsWriter (parts_of script) place file → IsFalse (mid.may_refuse file)
   log_let_in : IsFalse (mid.may_refuse log)
 
@@ -303,12 +301,12 @@ module _ (reads_once : ReadsOnce) (plans_once : PlansOnce) (script : Script) (lo
   planned-last planned is (inl U) =
       let M = U.met in
       sound-last reads_once (M.part).line M.name mid new fault L.tells calm (L.sources U.place M.name (reader-in script planned planned U.place M.name is refl (M.part, M.there, M.reads))) (M.refused).why
-  planned-last planned is (inr (inl U)) = absurd (L.fits planned U.plan U.heads U.why is U.have U.fitted U.is)
+  planned-last planned is (inr (inl U)) = absurd (fits_so script mid L.fitted L.tells L.fits_to planned U.plan U.heads is U.have U.fitted L.fits U.why U.is)
   planned-last planned is (inr (inr U)) =
       sink-last (U.part).line U.name mid new fault calm (L.sinks U.place U.name (writer-in script planned U.plan U.place U.name is (U.fitted).parts (U.part, U.there, U.writes))) U.why
 
   undone-last : {workers : ℕ} → IsUndone workers script log mid new fault → fault ≡ Faults.OutOfMemory
-  undone-last (inl (inl U)) = unplanned-last plans_once script mid new fault L.plan L.is_plan U
+  undone-last (inl (inl U)) = unplanned-last plans_once script mid new fault (L.fits_to).planned (L.fits_to).is_plan U
   undone-last (inl (inr (planned, is, U))) = planned-last planned is U
   undone-last (inr (inl B)) =
       let O = B.opened in
@@ -320,10 +318,10 @@ can-let name log old mid new script W can e =
     let tells = (can.asked).tells in
     record {
       tells = (W.goes_on).tells ∙ tells;
-      plan = can.plan;
-      is_plan = subst (λ (s : Script). IsPlanOfScript s can.plan) (sym e) can.is_plan;
       sources = λ place file r. sound-later name log old mid new script W file (can.sources place file (subst (λ (s : Script). IsReader (parts_of s) place file) e r));
-      fits = λ plan fitted heads why is have. can.fits plan fitted heads why (subst (λ (s : Script). IsPlanOfScript s plan) e is) (heads-before name log old mid new script W tells plan.parts (length plan.parts) heads have);
+      fitted = can.fitted;
+      fits_to = fitted-in name log old mid new script W can.script can.fitted e can.fits_to;
+      fits = can.fits;
       sinks = λ place file w. refuse-later name log old mid new script W file (can.sinks_let_in place file (subst (λ (s : Script). IsWriter (parts_of s) place file) e w));
       log_let_in = refuse-later name log old mid new script W log can.log_let_in;
     }
@@ -431,23 +429,23 @@ heads-told : (old : Outside) (parts : List PartLine) (files : PlayFiles) (sample
 heads-told old parts files samples A = λ tells place name b reader. (let R = A.sources place name reader in (R.head, R.head_is, (R.bytes, R.held, R.reads)))
 
 module _ (reads_once : ReadsOnce) (plans_once : PlansOnce) (never : FitsNot) (misfits_once : MisfitsOnce) (script : Script) (log : List ℕ) (mid new : Outside) (fault : Fault) (why : PlanFault) (calm : IsCalm mid new) (tells : IsTrue mid.tells)
-    (plan : PlanValue) (is_plan : IsPlanOfScript script plan) (sources : (place : ℕ) (file : List ℕ) → IsReader (parts_of script) place file → IsSound mid file)
-    (misfits : (planned fitted : PlanValue) (heads : List WavHead) → IsPlanOfScript script planned → HaveHeads mid planned.parts (length planned.parts) heads → IsFitted planned heads fitted → IsFitFault fitted why) where
+    (sources : (place : ℕ) (file : List ℕ) → IsReader (parts_of script) place file → IsSound mid file)
+    (one : PlanValue) (fits_to : IsFittedTo script mid one) (misfits : IsFitFault one why) where
   fitted-none : (planned fitted : PlanValue) (files : PlayFiles) (samples : List (List ℕ)) → IsPlanOfScript script planned → IsFitted planned files.heads fitted → IsFit fitted → AreFiles mid fitted.parts files samples → ⊥
   fitted-none planned fitted files samples is F fit A =
-      never fitted why fit (misfits planned fitted files.heads is (heads-told mid planned.parts files samples (subst (λ (ps : List PartLine). AreFiles mid ps files samples) F.parts A)) F)
+      never fitted why fit (misfits_so script mid one tells fits_to planned fitted files.heads is (heads-told mid planned.parts files samples (subst (λ (ps : List PartLine). AreFiles mid ps files samples) F.parts A)) F why misfits)
 
   opened-none : (fitted : PlanValue) (files : PlayFiles) (samples : List (List ℕ)) → WasOpened script mid fitted files → AreFiles mid fitted.parts files samples → ⊥
   opened-none fitted files samples O A = fitted-none O.planned fitted files samples O.is_plan O.fitted O.fit A
 
   misfit-told : {workers : ℕ} → IsUndone workers script log mid new fault → (fault ≡ fault_of_plan why) ⊎ (fault ≡ Faults.OutOfMemory)
-  misfit-told (inl (inl U)) = inr (unplanned-last plans_once script mid new fault plan is_plan U)
+  misfit-told (inl (inl U)) = inr (unplanned-last plans_once script mid new fault fits_to.planned fits_to.is_plan U)
   misfit-told (inl (inr (planned, is, inl U))) =
       let M = U.met in
       inr (sound-last reads_once (M.part).line M.name mid new fault tells calm (sources U.place M.name (reader-in script planned planned U.place M.name is refl (M.part, M.there, M.reads))) (M.refused).why)
   misfit-told (inl (inr (planned, is, inr (inl U)))) =
       let V = fitted_valid planned U.plan U.heads (valid_of script planned is) U.fitted in
-      inl (U.told ∙ ap fault_of_plan (misfits_once U.plan U.why why V U.is (misfits planned U.plan U.heads is U.have U.fitted)))
+      inl (U.told ∙ ap fault_of_plan (misfits_once U.plan U.why why V U.is (misfits_so script mid one tells fits_to planned U.plan U.heads is U.have U.fitted why misfits)))
   misfit-told (inl (inr (planned, is, inr (inr U)))) = let f = U.files_are tells in absurd (fitted-none planned U.plan U.files f.0 is U.fitted U.fit f.1)
   misfit-told (inr (inl B)) = let left = B.left tells in absurd (opened-none B.plan B.files left.samples B.opened left.files_are)
   misfit-told (inr (inr U)) = let left = U.left tells in absurd (opened-none U.plan U.files left.samples U.opened left.files_are)
@@ -462,7 +460,7 @@ misfitted once reads_once plans_once never misfits_once name log old new before 
     let e = read-same once name log old P.mid P.script has.script W has.asked in
     let planned = subst (λ (s : Script). IsPlanOfScript s O.planned) e O.is_plan in
     let A = subst (λ (ps : List PartLine). AreFiles old ps (D.files) H.samples) (O.fitted).parts (files-before old P.mid (D.plan).parts D.files H.samples W.files H.files_are) in
-    absurd (never D.plan why O.fit (has.misfits O.planned D.plan (D.files).heads planned (heads-told old (O.planned).parts D.files H.samples A) O.fitted))
+    absurd (never D.plan why O.fit (misfits_so has.script old has.fitted (has.asked).tells has.fits_to O.planned D.plan (D.files).heads planned (heads-told old (O.planned).parts D.files H.samples A) O.fitted why has.misfits))
 misfitted once reads_once plans_once never misfits_once name log old new before now told told_new why (Err fault) status is told_is none has =
     elim is.unplayed [
       | inl (same, reason) ↦ fault-status fault _ told told_new before now status none.print told_is (inr (script-last once name log old new has.script fault (calm-of old new before now none) has.asked reason))
@@ -470,10 +468,9 @@ misfitted once reads_once plans_once never misfits_once name log old new before 
           let e = read-same once name log old mid script has.script W has.asked in
           let asked = has.asked in
           fault-status fault _ told told_new before now status none.print told_is
-          (misfit-told reads_once plans_once never misfits_once script log mid new fault why (calm-later name log old mid new script W before now none) ((W.goes_on).tells ∙ asked.tells) has.plan (subst (λ (s : Script). IsPlanOfScript s has.plan) (sym e) has.is_plan)
+          (misfit-told reads_once plans_once never misfits_once script log mid new fault why (calm-later name log old mid new script W before now none) ((W.goes_on).tells ∙ asked.tells)
           (λ place file r. sound-later name log old mid new script W file (has.sources place file (subst (λ (s : Script). IsReader (parts_of s) place file) e r)))
-          (λ planned fitted heads is have F. has.misfits planned fitted heads (subst (λ (s : Script). IsPlanOfScript s planned) e is) (heads-before name log old mid new script W asked.tells planned.parts (length planned.parts) heads have) F)
-          undone)
+          has.fitted (fitted-in name log old mid new script W has.script has.fitted e has.fits_to) has.misfits undone)
     ]
 
 -- ---- a script with a faulty source

@@ -50,7 +50,7 @@ of-answer : (fault : Fault) (answer : Result Written Fault) → (let found : Res
 of-answer fault answer same = inl (ap status_of same)
 
 turn-fault : (Gives : Giving) (Stops : Stopping) (input output : List ℕ) (old new : Outside) (before now : ℕ) (answer : Result Written Fault) (fault : Fault) → GivesOnce Gives → StopsBelow Stops → IsFaultless old new before now → CanTurn Gives input output old answer → HasTurnReason Gives Stops input output old new fault → IsOrMemory (Statuses.Fault fault) (status_of answer)
-turn-fault Gives Stops input output old new before now answer Faults.ReadFault once below none can reason = absurd (none.read reason)
+turn-fault Gives Stops input output old new before now answer Faults.ReadFault once below none can reason = absurd (none.read reason.rose)
 turn-fault Gives Stops input output old new before now answer Faults.WriteFault once below none can reason = absurd (none.write reason)
 turn-fault Gives Stops input output old new before now answer (Faults.Absent Files.Input) once below none can reason = absurd (none-some can.bytes (old.file input) reason.1 can.given.held)
 turn-fault Gives Stops input output old new before now answer (Faults.Absent Files.Output) once below none can reason = absurd (true-false (old.may_refuse output) reason.1 can.let_in)

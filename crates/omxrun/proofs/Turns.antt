@@ -1,19 +1,28 @@
 -- What comes of the files where one is turned into another.
-use Rattle.std.proofs.Common.{◌≡◌, ◌⊎◌, ◌≤◌, inl, inr, ℕ, List, [], length, take, Option, Some, Result, Ok, Err, OnOk, OnErr, IfOk, IfErr, IsTrue, ap, sym, subst, ◌∙◌}
+use Rattle.std.proofs.Common.{◌≡◌, ◌⊎◌, ◌≤◌, inl, inr, ℕ, List, [], ◌∷◌, length, take, Option, Some, None, Result, Ok, Err, OnOk, OnErr, IfOk, IfErr, IsTrue, ap, sym, subst, refl, ◌∙◌, arith}
 use Rattle.outside_io.specs.Causes.{Rose}
-use Rattle.outside_io.specs.Files.{AbsencesStand, CountsStand, IsFrontOf, Outside, SameBut}
+use Rattle.outside_io.specs.Files.{AbsencesStand, CountsStand, IsFailedRead, IsFrontOf, Outside, SameBut, with_name}
 use Rattle.outside_io.specs.Moves.{AppendsFront, WhereTold}
+use Rattle.outside_io.specs.declared.media.Refused.{Refused}
+use Rattle.outside_io.specs.declared.media.Refused.TheVariants as Refusals
 use Rattle.outside_io.proofs.Closed.{take-twice}
+use Rattle.outside_io.proofs.Names.{names-same}
 use Rattle.omx_types.specs.declared.fault.Fault.{Fault}
 use Rattle.omx_types.specs.declared.fault.Fault.TheVariants as Faults
 use Rattle.omx_types.specs.declared.fault.Which.TheVariants as Files
 use Rattle.wav_form.specs.Reading.{most_bytes}
-use Rattle.omxrun.specs.Opened.{HasOpenReason}
+use Rattle.omxrun.specs.Opened.{HasOpenReason, fault_of_input}
 use Rattle.omxrun.specs.Turned.{Written, Giving, Stopping, text_in, Comes, HasTurnReason, IsAlone, IsUnopened, IsTurnOutcome}
 use Rattle.omxrun.specs.declared.done.Done.{Done}
 use Rattle.omxrun.proofs.Absences.{IsAbsenceTold}
 
 -- ---- files that weren't opened
+
+pub input-refused : (input output : List ℕ) (old new : Outside) (refused : Refused) → (refused ≡ Refusals.Absent → Rose old.absences new.absences) → (refused ≡ Refusals.Absent → old.file input ≡ None)
+    → (refused ≡ Refusals.Failed → Rose old.read_faults new.read_faults) → (refused ≡ Refusals.Failed → new.failed_reads ≡ with_name input 1 old.failed_reads) → HasOpenReason input output old new (fault_of_input refused)
+input-refused input output old new Refusals.Absent absent there failed named = (absent refl, there refl)
+input-refused input output old new Refusals.Failed absent there failed named = record { rose = failed refl; named = λ tells. names-same input 1 old.failed_reads new.failed_reads (omega arith) (named refl) }
+input-refused input output old new Refusals.OutOfMemory absent there failed named = tt
 
 open-reason : (Gives : Giving) (Stops : Stopping) (input output : List ℕ) (old new : Outside) (fault : Fault) → HasOpenReason input output old new fault → HasTurnReason Gives Stops input output old new fault
 open-reason Gives Stops input output old new Faults.ReadFault reason = reason
@@ -66,7 +75,7 @@ pub record IsMoved (Gives : Giving) (bytes : List ℕ) (ran : Result Done Fault)
 
 -- why it stopped
 abbrev pub HasMoveReason : Stopping → (input : List ℕ) → Outside → Outside → Fault → Type 0
-HasMoveReason Stops input old new Faults.ReadFault = Rose old.read_faults new.read_faults
+HasMoveReason Stops input old new Faults.ReadFault = IsFailedRead (input ∷ []) old new
 HasMoveReason Stops input old new Faults.WriteFault = Rose old.write_faults new.write_faults
 HasMoveReason Stops input old new Faults.OutOfMemory = Unit {0}
 HasMoveReason Stops input old new (Faults.Short Files.Input at size) =

@@ -17,9 +17,9 @@ use Rattle.wav_form.specs.declared.heads.WavHead.{WavHead}
 use Rattle.wav_form.specs.Reading.{Reads}
 use Rattle.play_forms.specs.declared.plan_fault.PlanFault.{PlanFault}
 use Rattle.play_forms.specs.declared.plan_fault.PlanFault.TheVariants as Plans
-use Rattle.play_forms.specs.Plans.{IsFaultOfScript, IsFitFault, IsFitted, IsPlanOfScript, PlanValue}
+use Rattle.play_forms.specs.Plans.{IsFaultOfScript, IsFit, IsFitFault, IsPlanOfScript, PlanValue}
 use Rattle.play_result_laws.specs.Files.{IsReader, IsWriter, read_by}
-use Rattle.play_files.specs.Left.{HaveHeads}
+use Rattle.play_files.specs.Left.{IsFittedTo}
 use Rattle.play_course.specs.Settling.{parts_of}
 
 -- the told file of that name, which is given to its end
@@ -75,21 +75,19 @@ pub record IsFaulty (name log : List ℕ) (old : Outside) (line : ℕ) (fault : 
 pub record IsMisfitted (name log : List ℕ) (old : Outside) (why : PlanFault) : Type 0 where
   pub script : Script
   pub asked : IsAsked name log old script
-  pub plan : PlanValue
-  pub is_plan : IsPlanOfScript script plan
   pub sources : (place : ℕ) (file : List ℕ) → IsReader (parts_of script) place file → IsSound old file
-  pub misfits : (planned fitted : PlanValue) (heads : List WavHead) → IsPlanOfScript script planned
-      → HaveHeads old planned.parts (length planned.parts) heads → IsFitted planned heads fitted → IsFitFault fitted why
+  pub fitted : PlanValue
+  pub fits_to : IsFittedTo script old fitted
+  pub misfits : IsFitFault fitted why
 
 -- the script's plan is there and fits its sources, which are sound, and neither a sink nor the log is refused
 pub record CanPlay (name log : List ℕ) (old : Outside) : Type 0 where
   pub script : Script
   pub asked : IsAsked name log old script
-  pub plan : PlanValue
-  pub is_plan : IsPlanOfScript script plan
   pub sources : (place : ℕ) (file : List ℕ) → IsReader (parts_of script) place file → IsSound old file
-  pub fits : (planned fitted : PlanValue) (heads : List WavHead) (why : PlanFault) → IsPlanOfScript script planned
-      → HaveHeads old planned.parts (length planned.parts) heads → IsFitted planned heads fitted → IsFitFault fitted why → ⊥
+  pub fitted : PlanValue
+  pub fits_to : IsFittedTo script old fitted
+  pub fits : IsFit fitted
   pub sinks_let_in : (place : ℕ) (file : List ℕ) → IsWriter (parts_of script) place file → IsFalse (old.may_refuse file)
   pub log_let_in : IsFalse (old.may_refuse log)
 

@@ -11,7 +11,7 @@ use Rattle.outside_io.specs.Files.{Outside}
 use Rattle.script_lang.specs.declared.script.Script.{Script}
 use Rattle.play_result_laws.specs.Files.{IsWriter}
 use Rattle.play_course.specs.Settling.{parts_of}
-use Rattle.run_audit.specs.Faults.{AreThere, Asks, HasSources, IsFitBy}
+use Rattle.run_audit.specs.Faults.{AreThere, Asks, GiveHeads, IsFitBy}
 use Rattle.omxrun.specs.Asked.{IsAsked, IsUnread}
 
 -- the told files ask for this fault: the script isn't there, or is none, or the files that it names and the log ask for it
@@ -25,7 +25,7 @@ AsksAudit name log old fault =
 pub record HasCutSink (name log : List ℕ) (old : Outside) : Type 0 where
   pub script : Script
   pub asked : IsAsked name log old script
-  pub has : HasSources script old
+  pub sources : GiveHeads old (parts_of script) (length (parts_of script))
   pub fits : IsFitBy script old
   pub sinks : AreThere old (parts_of script) (length (parts_of script))
   pub log_there : IsSome (old.file log)

@@ -6,17 +6,15 @@ use Rattle.omx_types.specs.declared.fault.Fault.TheVariants as Faults
 use Rattle.omx_types.specs.declared.fault.Status.{Status}
 use Rattle.omx_types.specs.declared.fault.Status.TheVariants as Statuses
 use Rattle.script_lang.specs.declared.script.Script.{Script}
-use Rattle.wav_form.specs.declared.heads.WavHead.{WavHead}
-use Rattle.play_forms.specs.declared.plan_fault.PlanFault.{PlanFault}
-use Rattle.play_forms.specs.Plans.{IsFitFault, IsFitted, IsPlanOfScript, PlanValue}
+use Rattle.play_forms.specs.Plans.{IsFit, PlanValue}
 use Rattle.play_result_laws.specs.Files.{IsReader, IsWriter}
-use Rattle.play_files.specs.Left.{HaveHeads}
+use Rattle.play_files.specs.Left.{IsFittedTo}
 use Rattle.play_course.specs.Settling.{parts_of}
 use Rattle.audit_forms.specs.Audited.{Verdict, Yes, No}
 use Rattle.audit_forms.specs.Whole.{IsAudited}
 use Rattle.audit_laws.specs.Played.{IsPlayedBy}
 use Rattle.run_audit.specs.Auditing.{IsJudged, IsUnaudited}
-use Rattle.run_audit.specs.Faults.{AreGivenToEnd}
+use Rattle.run_audit.specs.Faults.{AreGivenToEnd, IsLogGiven}
 use Rattle.run_audit.specs.declared.auditing.AuditFault.{AuditFault}
 use Rattle.run_audit.specs.declared.auditing.AuditFault.TheVariants as Answers
 use Rattle.omxrun.specs.Absences.{AreAbsencesTold}
@@ -28,12 +26,14 @@ use Rattle.omxrun.specs.declared.done.Done.TheVariants.{Audited}
 
 -- ---- a verdict
 
--- the file is a script, which was read, and then the files that it names and the log: told, the log has this verdict
+-- the file is a script, which was read, and then the files that it names and the log, which gave all its bytes: told, the log has this
+-- verdict
 pub record IsDecided (name log : List ℕ) (old new : Outside) (verdict : Verdict) : Type 0 where
   pub script : Script
   pub mid : Outside
   pub read : WasRead name log old mid script
   pub judged : IsJudged script log mid new verdict
+  pub log_given : IsTrue old.tells → IsLogGiven log old
   pub told : IsTrue old.tells → IsAudited name log old verdict
 
 -- the told log names so many acts, from the opening of the script's play to the end of one that was done whole, and the told files of the
@@ -92,11 +92,10 @@ pub record IsAuditOutcome (name log : List ℕ) (old new : Outside) (outcome : R
 pub record CanAudit (name log : List ℕ) (old : Outside) : Type 0 where
   pub script : Script
   pub asked : IsAsked name log old script
-  pub plan : PlanValue
-  pub is_plan : IsPlanOfScript script plan
   pub sources : (place : ℕ) (file : List ℕ) → IsReader (parts_of script) place file → IsSound old file
-  pub fits : (planned fitted : PlanValue) (heads : List WavHead) (why : PlanFault) → IsPlanOfScript script planned
-      → HaveHeads old planned.parts (length planned.parts) heads → IsFitted planned heads fitted → IsFitFault fitted why → ⊥
+  pub fitted : PlanValue
+  pub fits_to : IsFittedTo script old fitted
+  pub fits : IsFit fitted
   pub sinks : (place : ℕ) (file : List ℕ) → IsWriter (parts_of script) place file → (bytes : List ℕ) × IsGiven old file bytes
   pub written_log : List ℕ
   pub log_given : IsGiven old log written_log

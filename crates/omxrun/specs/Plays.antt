@@ -26,6 +26,7 @@ pub record WasRead (name log : List ℕ) (old mid : Outside) (script : Script) :
   pub files : mid.file ≡ old.file
   pub absences : AbsencesStand old mid
   pub stand : CountsStand old mid
+  pub unread : mid.failed_reads ≡ old.failed_reads
   pub asked : mid.openings ≡ with_name name 1 old.openings
   pub text : List ℕ
   pub held : IsTrue old.tells → old.file name ≡ Some text

@@ -1,7 +1,7 @@
 -- What the trace of a script comes to, and the text that it asks for.
-use Rattle.std.specs.Prelude.{◌≡◌, ◌⊎◌, ℕ, List, ◌++◌, Some, None, IsTrue, IsSome, Result, Ok, Err, OnOk}
+use Rattle.std.specs.Prelude.{◌≡◌, ◌⊎◌, ℕ, List, [], ◌∷◌, ◌++◌, Some, None, IsTrue, IsSome, Result, Ok, Err, OnOk}
 use Rattle.outside_io.specs.Causes.{Rose}
-use Rattle.outside_io.specs.Files.{CountsStand, Outside}
+use Rattle.outside_io.specs.Files.{CountsStand, IsFailedRead, Outside}
 use Rattle.outside_io.specs.Whole.{IsShort}
 use Rattle.omx_types.specs.declared.fault.Fault.{Fault}
 use Rattle.omx_types.specs.declared.fault.Fault.TheVariants as Faults
@@ -30,7 +30,7 @@ pub record IsNoScriptIn (name : List ℕ) (old : Outside) (line : ℕ) (why : Sc
 -- why there is no script to trace; a fault of its bytes is told only where no read and no write failed
 abbrev pub HasScriptReason : List ℕ → Outside → Outside → Fault → Type 0
 HasScriptReason name old new (Faults.Script line why) = CountsStand old new × (IsTrue old.tells → IsNoScriptIn name old line why)
-HasScriptReason name old new Faults.ReadFault = Rose old.read_faults new.read_faults
+HasScriptReason name old new Faults.ReadFault = IsFailedRead (name ∷ []) old new
 HasScriptReason name old new (Faults.Absent Files.Script) = Rose old.absences new.absences × (old.file name ≡ None)
 HasScriptReason name old new Faults.OutOfMemory = Unit {0}
 HasScriptReason name old new (Faults.Short Files.Script at size) =

@@ -1,8 +1,8 @@
 -- What comes of the files where a command turns one into another. `Gives` says of each file's bytes what they come to: the
 -- other file's bytes and what is told of them, or a fault of these bytes. `Stops` says where a source may give nothing.
-use Rattle.std.specs.Prelude.{◌≡◌, ◌⊎◌, ◌≤◌, ℕ, List, [], length, Option, Some, None, Result, Ok, Err, IsTrue, IsFalse, IsSome, IfOk, IfErr, OnOk, OnErr}
+use Rattle.std.specs.Prelude.{◌≡◌, ◌⊎◌, ◌≤◌, ℕ, List, [], ◌∷◌, length, Option, Some, None, Result, Ok, Err, IsTrue, IsFalse, IsSome, IfOk, IfErr, OnOk, OnErr}
 use Rattle.outside_io.specs.Causes.{Rose}
-use Rattle.outside_io.specs.Files.{CountsStand, IsFrontOf, Outside, SameBut}
+use Rattle.outside_io.specs.Files.{CountsStand, IsFailedRead, IsFrontOf, Outside, SameBut}
 use Rattle.omx_types.specs.declared.fault.Fault.{Fault}
 use Rattle.omx_types.specs.declared.fault.Fault.TheVariants as Faults
 use Rattle.omx_types.specs.declared.fault.Which.TheVariants as Files
@@ -44,7 +44,7 @@ IsKeptOrBegun Gives input output old new =
 
 -- why no output was written: the input is opened first, then the output, and then the bytes count. A short input isn't too large.
 abbrev pub HasTurnReason : Giving → Stopping → List ℕ → List ℕ → Outside → Outside → Fault → Type 0
-HasTurnReason Gives Stops input output old new Faults.ReadFault = Rose old.read_faults new.read_faults
+HasTurnReason Gives Stops input output old new Faults.ReadFault = IsFailedRead (input ∷ []) old new
 HasTurnReason Gives Stops input output old new Faults.WriteFault = Rose old.write_faults new.write_faults
 HasTurnReason Gives Stops input output old new (Faults.Absent Files.Input) = Rose old.absences new.absences × (old.file input ≡ None)
 HasTurnReason Gives Stops input output old new (Faults.Absent Files.Output) =

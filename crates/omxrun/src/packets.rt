@@ -2,7 +2,7 @@
 
 ghost use Rattle.std.specs.Prelude.{◌≡◌, ◌⊎◌, ◌≤◌, [], Some, None, Ok, Err, length, IsTrue, IsSome, IfOk, IfErr, OnOk, OnErr};
 ghost use Rattle.outside_io.specs.Causes.{Rose, sum_of_counts};
-ghost use Rattle.outside_io.specs.Files.{CountsStand, GoesOn, IsFrontOf, SameBut};
+ghost use Rattle.outside_io.specs.Files.{CountsStand, GoesOn, IsFrontOf, SameBut, with_name};
 ghost use Rattle.outside_io.specs.Moves.{WhereTold};
 ghost use Rattle.rtp_parts.specs.Answers.{StoppedPacking};
 ghost use Rattle.omxrun.specs.Absences.{AreAbsencesTold};
@@ -67,6 +67,8 @@ fn open_both<M: Media>(
     ensures told { IfOk result (λ opened. M.Src.told opened.input ≡ (M.outside media.old).file input.now) }
     ensures size { WhereTold ((M.outside media.old).file input.now) (λ bytes. IfOk result (λ opened. M.Src.size opened.input ≡ length bytes)) }
     ensures ends { IfOk result (λ opened. M.Src.ends opened.input ≡ (M.outside media.old).ends input.now) }
+    ensures source_name { IsTrue (M.outside media.old).tells → IfOk result (λ opened. M.Src.name opened.input ≡ input.now) }
+    ensures none_failed { OnOk result ((M.outside media.new).failed_reads ≡ (M.outside media.old).failed_reads) }
     ensures begun { IsTrue (M.outside media.old).tells → IfOk result (λ opened. M.Snk.told opened.output ≡ Some []) }
     ensures name { IsTrue (M.outside media.old).tells → IfOk result (λ opened. M.Snk.name opened.output ≡ output.now) }
     ensures unread { IfOk result (λ opened. M.Src.faults opened.input ≡ 0) }
@@ -113,6 +115,7 @@ fn close_both<M: Media>(
         (M.outside media.new).write_faults ≡ (M.outside media.old).write_faults) }
     ensures closed { M.Snk.faults opened.output ≡ 0 → OnOk result ((M.outside media.new).write_faults ≡ (M.outside media.old).write_faults) }
     ensures reads { (M.outside media.new).read_faults ≡ sum_of_counts (M.outside media.old).read_faults (M.Src.faults opened.input) }
+    ensures names { (M.outside media.new).failed_reads ≡ with_name (M.Src.name opened.input) (M.Src.faults opened.input) (M.outside media.old).failed_reads }
     ensures writes { sum_of_counts (M.outside media.old).write_faults (M.Snk.faults opened.output) ≤ (M.outside media.new).write_faults }
 {
     let _counts = (media.read_faults(), media.write_faults());

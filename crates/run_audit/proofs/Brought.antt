@@ -50,7 +50,7 @@ use Rattle.run_audit.proofs.Streams.{GoesOn, streams_go}
 
 -- what a compared sink is known by, and tells
 pub record KnowsCompared {S C : Type 0} (see : Sight S (ComparingValue S) C) : Type 0 where
-  pub named : (snk : ComparingValue S) → see.writes.name snk ≡ known_by (see.reads.told snk.src) (see.reads.ends snk.src)
+  pub named : (snk : ComparingValue S) → see.writes.name snk ≡ known_by (see.reads.name snk.src) (see.reads.told snk.src) (see.reads.ends snk.src)
   pub tells : (snk : ComparingValue S) → see.writes.told snk ≡ told_by (see.reads.told snk.src) snk
 
 pub knows_compared : {S C : Type 0} (client : ClientGhosts C) (reads : SourceGhosts S) → KnowsCompared (replay_sight client reads)
@@ -111,7 +111,7 @@ module _ {S C : Type 0} where
         }
 
     compared : IsTrue tells → IsComparedWith see.reads.told (x.sinks place) ((B.done).part).file
-    compared t = compared_still see.reads.told see.reads.ends see.writes.name see.writes.faults (SourceStays see.reads.size see.reads.told see.reads.ends see.reads.offset see.reads.faults ((B.done).part).failed) Q.named (x.sinks place)
+    compared t = compared_still see.reads.name see.reads.told see.reads.ends see.writes.name see.writes.faults (SourceStays see.reads.name see.reads.size see.reads.told see.reads.ends see.reads.offset see.reads.faults ((B.done).part).failed) Q.named (x.sinks place)
         (work.part).file ((B.done).part).file ((B.run).object).1 ((I.sinks t).outside place work held)
 
     pub files_then : (n : ℕ) → files_in new n ≡ with_at nat_eq (Some (place, ((B.done).part).file)) (files_in old) n

@@ -41,14 +41,14 @@ module _ {S : Type 0} (see : Sight S (ComparingValue S) Progress) where
 
   joins : (a b d : Entry) → FileGoesOn see true a b → FileGoesOn see true b d → FileGoesOn see true a d
   joins a b d F G =
-      (object_further see.reads.size see.reads.told see.reads.ends see.reads.offset see.reads.faults see.writes.name see.writes.faults
+      (object_further see.reads.name see.reads.size see.reads.told see.reads.ends see.reads.offset see.reads.faults see.writes.name see.writes.faults
       (record { failed = true; file = a }) (record { failed = true; file = b }) (record { failed = true; file = d }) ((λ e. e), F) ((λ e. e), G)).1
 
   pub shown : (fault : PartFault) (a b c d : Entry) → FileGoesOn see false a b → Shows fault b c → FileGoesOn see true c d → Shows fault a d
   shown fault a b c d F H G =
-      let earlier = shows_earlier see.reads.size see.reads.told see.reads.ends see.reads.offset see.reads.faults see.writes.name see.writes.faults fault
+      let earlier = shows_earlier see.reads.name see.reads.size see.reads.told see.reads.ends see.reads.offset see.reads.faults see.writes.name see.writes.faults fault
       (record { failed = false; file = a }) (record { failed = false; file = b }) (record { failed = true; file = c }) ((λ e. e), F) (refl, H) in
-      (shows_later see.reads.size see.reads.told see.reads.ends see.reads.offset see.reads.faults see.writes.name see.writes.faults fault
+      (shows_later see.reads.name see.reads.size see.reads.told see.reads.ends see.reads.offset see.reads.faults see.writes.name see.writes.faults fault
       (record { failed = false; file = a }) (record { failed = true; file = c }) (record { failed = true; file = d }) earlier ((λ e. e), G)).1
 
   -- where no work is out the file is in the graph

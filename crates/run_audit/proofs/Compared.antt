@@ -9,12 +9,12 @@ use Rattle.il_flow.specs.Works.{WorkOf}
 use Rattle.il_graph.specs.Shown.{Shown}
 use Rattle.graph_acts.specs.Objects.{files_in, with_at}
 use Rattle.compared_files.specs.Comparing.{ComparingValue, known_by}
+use Rattle.compared_files.proofs.Known.{known_bytes}
 use Rattle.run_audit.specs.Replaying.{AreCompared, IsComparedWith}
-use Rattle.run_audit.proofs.Sinks.{known_same}
 
-module _ {S : Type 0} (told : S → Option (List ℕ)) (ends : S → Option ℕ) (name : ComparingValue S → List ℕ) (faults : ComparingValue S → ℕ) (source : S → S → Type 0) (named : (snk : ComparingValue S) → name snk ≡ known_by (told snk.src) (ends snk.src)) where
+module _ {S : Type 0} (source_name : S → List ℕ) (told : S → Option (List ℕ)) (ends : S → Option ℕ) (name : ComparingValue S → List ℕ) (faults : ComparingValue S → ℕ) (source : S → S → Type 0) (named : (snk : ComparingValue S) → name snk ≡ known_by (source_name snk.src) (told snk.src) (ends snk.src)) where
   pub sink_still : (snk now : ComparingValue S) → SinkStays name faults snk now → told now.src ≡ told snk.src
-  sink_still snk now K = known_same (told now.src) (told snk.src) (ends now.src) (ends snk.src) (sym (named now) ∙ (K.name ∙ named snk))
+  sink_still snk now K = known_bytes (source_name now.src) (source_name snk.src) (told now.src) (told snk.src) (ends now.src) (ends snk.src) (sym (named now) ∙ (K.name ∙ named snk))
 
   pub compared_still : (t : Option (List ℕ)) (before now : Option (PartFile S (ComparingValue S))) → BothOrNone (FileStays source (SinkStays name faults)) before now → IsComparedWith told t before → IsComparedWith told t now
   compared_still t None None K h = h

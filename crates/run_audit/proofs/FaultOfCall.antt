@@ -22,8 +22,9 @@ use Rattle.play_forms.proofs.OneMisfit.{fit_faultless, one_misfit}
 use Rattle.play_plan_laws.specs.Assemblies.{PlayFiles}
 use Rattle.play_result_laws.specs.Files.{IsReader, IsWriter, read_by, written_by}
 use Rattle.play_files.specs.Faults.{fault_of_plan}
-use Rattle.play_files.specs.Left.{HaveHeads, IsUnplanned, IsUnread}
+use Rattle.play_files.specs.Left.{HaveHeads, IsUnfit, IsUnplanned, IsUnread}
 use Rattle.play_files.specs.Opening.{IsSourceFault}
+use Rattle.play_files.proofs.FittedPlans.{fits_so, misfits_so, valid_of}
 use Rattle.play_course.specs.Outcomes.{WasOpened}
 use Rattle.play_course.specs.Settling.{parts_of}
 use Rattle.audit_files.specs.Left.{IsKnownFault, IsUncompared, IsUnmatched}
@@ -31,15 +32,11 @@ use Rattle.audit_forms.specs.Audited.{No, Verdict, Yes}
 use Rattle.run_audit.specs.declared.auditing.AuditFault.{AuditFault}
 use Rattle.run_audit.specs.declared.auditing.AuditFault.TheVariants as audits
 use Rattle.run_audit.specs.Auditing.{AreFound, IsJudged, IsNotRun, IsUnaudited}
-use Rattle.run_audit.specs.Faults.{AreThere, Asks, AsksByFormats, AsksByLog, AsksByPlan, AsksBySink, AsksBySource, HasSources, TellsOrMemory}
-use Rattle.run_audit.proofs.FaultOfFile.{IsCalm, IsOr, bad_headless, head_given, known_absent, known_given, log_absent, none_there, source_bad}
+use Rattle.run_audit.specs.Faults.{AreThere, Asks, AsksByFormats, AsksByLog, AsksByPlan, AsksBySink, AsksBySource, GiveHeads, IsFitBy, TellsOrMemory}
+use Rattle.run_audit.proofs.FaultOfFile.{IsCalm, IsOr, bad_headless, head_given, known_absent, known_given, log_bad, log_unread, none_there, source_bad}
 use Rattle.run_audit.proofs.Outcome.{parts_so}
 
 -- ---- plans
-
-pub valid_of : (script : Script) (planned : PlanValue) → IsPlanOfScript script planned → IsValid planned
-valid_of (Play units parts links) planned is = is.valid
-valid_of (Trace units lines) planned is = absurd is
 
 -- a valid plan stays valid with what goes through its links
 pub fitted_valid : (planned fitted : PlanValue) (heads : List WavHead) → IsValid planned → IsFitted planned heads fitted → IsValid fitted
@@ -163,25 +160,30 @@ module _ (script : Script) (log : List ℕ) (old new : Outside) (tells : IsTrue 
 
   -- ---- all sources have heads
 
-  pub sources_memory : HasSources script old → (planned : PlanValue) → IsPlanOfScript script planned → IsUnread planned old new fault → fault ≡ Faults.OutOfMemory
-  sources_memory has planned is U =
+  pub sources_memory : GiveHeads old (parts_of script) (length (parts_of script)) → (planned : PlanValue) → IsPlanOfScript script planned → IsUnread planned old new fault → fault ≡ Faults.OutOfMemory
+  sources_memory give planned is U =
       let M = U.met in
       let (low, reader) = reads_there planned.parts U.place M.name (parts_so script planned is) (M.part, M.there, M.reads) in
-      head_given (M.part).line M.name old new tells calm fault (has.sources U.place M.name low reader) (M.refused).why
+      head_given (M.part).line M.name old new tells calm fault (give U.place M.name low reader) (M.refused).why
+
+  -- where the plan fits, it isn't what was told to be unfit
+  pub unfit_never : IsFitBy script old → (planned : PlanValue) → IsPlanOfScript script planned → IsUnfit planned old new fault → ⊥
+  unfit_never F planned is U = fits_so script old F.fitted tells F.fits_to planned U.plan U.heads is U.have U.fitted F.fit U.why U.is
 
   module _ (wanted : Fault) (A : AsksByFormats script old wanted) where
     fit_never : (planned plan : PlanValue) (heads : List WavHead) → IsPlanOfScript script planned → HaveHeads old planned.parts (length planned.parts) heads → IsFitted planned heads plan → IsFit plan → ⊥
-    fit_never planned plan heads is have fitted fit = fit_faultless plan A.why fit (A.misfits planned plan heads is have fitted)
+    fit_never planned plan heads is have fitted fit = fit_faultless plan A.why fit (misfits_so script old A.fitted tells A.fits_to planned plan heads is have fitted A.why A.misfits)
 
     opened_never : (plan : PlanValue) (files : PlayFiles) → WasOpened script old plan files → AreFound old plan files → ⊥
     opened_never plan files O F = fit_never O.planned plan files.heads O.is_plan (subst (λ (ps : List PartLine). HaveHeads old ps (length ps) files.heads) (O.fitted).parts F.sources) O.fitted O.fit
 
     by_formats : IsUnaudited script log old new fault → IsOr fault wanted
-    by_formats (inl (inl U)) = inr (unplanned_memory (A.has).plan (A.has).is_plan U)
-    by_formats (inl (inr (planned, is, inl U))) = inr (sources_memory A.has planned is U)
+    by_formats (inl (inl U)) = inr (unplanned_memory (A.fits_to).planned (A.fits_to).is_plan U)
+    by_formats (inl (inr (planned, is, inl U))) = inr (sources_memory A.sources planned is U)
     by_formats (inl (inr (planned, is, inr (inl U)))) =
         let V = fitted_valid planned U.plan U.heads (valid_of script planned is) U.fitted in
-        inl (U.told ∙ (ap fault_of_plan (one_misfit U.plan U.why A.why V U.is (A.misfits planned U.plan U.heads is U.have U.fitted)) ∙ sym A.told))
+        let misfits = misfits_so script old A.fitted tells A.fits_to planned U.plan U.heads is U.have U.fitted A.why A.misfits in
+        inl (U.told ∙ (ap fault_of_plan (one_misfit U.plan U.why A.why V U.is misfits) ∙ sym A.told))
     by_formats (inl (inr (planned, is, inr (inr U)))) = absurd (fit_never planned U.plan U.heads is U.have U.fitted U.fit)
     by_formats (inr (inl U)) = absurd (opened_never U.plan U.files U.opened U.found)
     by_formats (inr (inr U)) = absurd (opened_never U.plan U.files U.opened U.found)
@@ -217,25 +219,25 @@ module _ (script : Script) (log : List ℕ) (old new : Outside) (tells : IsTrue 
         ]
 
     by_sink : IsUnaudited script log old new fault → IsOr fault wanted
-    by_sink (inl (inl U)) = inr (unplanned_memory (A.has).plan (A.has).is_plan U)
-    by_sink (inl (inr (planned, is, inl U))) = inr (sources_memory A.has planned is U)
-    by_sink (inl (inr (planned, is, inr (inl U)))) = absurd (A.fits planned U.plan U.heads U.why is U.have U.fitted U.is)
+    by_sink (inl (inl U)) = inr (unplanned_memory ((A.fits).fits_to).planned ((A.fits).fits_to).is_plan U)
+    by_sink (inl (inr (planned, is, inl U))) = inr (sources_memory A.sources planned is U)
+    by_sink (inl (inr (planned, is, inr (inl U)))) = absurd (unfit_never A.fits planned is U)
     by_sink (inl (inr (planned, is, inr (inr U)))) = sink_met planned is U
     by_sink (inr (inl U)) = absurd (found_never U.plan U.files U.opened U.found)
     by_sink (inr (inr U)) = absurd (found_never U.plan U.files U.opened U.found)
 
-  -- ---- the log isn't there
+  -- ---- the log isn't there, or ends early
 
   module _ (wanted : Fault) (A : AsksByLog script log old wanted) where
     by_log : IsUnaudited script log old new fault → IsOr fault wanted
-    by_log (inl (inl U)) = inr (unplanned_memory (A.has).plan (A.has).is_plan U)
-    by_log (inl (inr (planned, is, inl U))) = inr (sources_memory A.has planned is U)
-    by_log (inl (inr (planned, is, inr (inl U)))) = absurd (A.fits planned U.plan U.heads U.why is U.have U.fitted U.is)
+    by_log (inl (inl U)) = inr (unplanned_memory ((A.fits).fits_to).planned ((A.fits).fits_to).is_plan U)
+    by_log (inl (inr (planned, is, inl U))) = inr (sources_memory A.sources planned is U)
+    by_log (inl (inr (planned, is, inr (inl U)))) = absurd (unfit_never A.fits planned is U)
     by_log (inl (inr (planned, is, inr (inr U)))) =
         let (low, writer) = writes_there (U.plan).parts U.place U.name ((U.fitted).parts ∙ parts_so script planned is) (U.part, U.there, U.writes) in
         inr (known_given (U.part).line U.name old new tells calm fault (A.sinks U.place U.name low writer) U.why)
-    by_log (inr (inl U)) = subst (IsOr fault) (sym A.told) (log_absent 0 log old new tells calm fault A.absent U.why)
-    by_log (inr (inr U)) = absurd (none_there (old.file log) A.absent (U.log_there tells))
+    by_log (inr (inl U)) = log_bad 0 log old new tells calm fault wanted A.bad U.why
+    by_log (inr (inr U)) = absurd (log_unread 0 log old new tells calm wanted A.bad (U.log_there tells) (U.log_given tells))
 
   -- ---- whichever it is
 
@@ -252,7 +254,7 @@ module _ (script : Script) (log : List ℕ) (old new : Outside) (tells : IsTrue 
   unjudged wanted (inr (inl A)) verdict J = all_heads_never wanted A (J.plan).parts (J.files).heads (opened_parts J.plan J.files J.opened) (J.found).sources
   unjudged wanted (inr (inr (inl A))) verdict J = opened_never wanted A J.plan J.files J.opened J.found
   unjudged wanted (inr (inr (inr (inl A)))) verdict J = found_never wanted A J.plan J.files J.opened J.found
-  unjudged wanted (inr (inr (inr (inr A)))) verdict J = none_there (old.file log) A.absent (J.log_there tells)
+  unjudged wanted (inr (inr (inr (inr A)))) verdict J = log_unread 0 log old new tells calm wanted A.bad (J.log_there tells) (J.log_given tells)
 
 pub told_asked : (script : Script) (log : List ℕ) (old new : Outside) → IsTrue old.tells → IsCalm old new → (result : Result ℕ AuditFault) → IfOk result (λ acts. IsJudged script log old new (Yes acts)) → IfErr result (IsNotRun script log old new)
     → (wanted : Fault) → Asks script log old wanted → TellsOrMemory result wanted

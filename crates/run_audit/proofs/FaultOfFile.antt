@@ -13,7 +13,7 @@ use Rattle.wav_form.proofs.Read.{same_answer}
 use Rattle.play_files.specs.Opening.{HasHead, IsShortHead, IsSourceFault}
 use Rattle.audit_files.specs.Left.{IsKnownFault}
 use Rattle.run_audit.specs.Auditing.{IsLogFault}
-use Rattle.run_audit.specs.Faults.{GivesHead, GivesUpTo, IsBadMedia, IsBadSource}
+use Rattle.run_audit.specs.Faults.{GivesHead, GivesUpTo, IsBadLog, IsBadMedia, IsBadSource, IsCutAt, IsLogGiven}
 
 -- the one that is wanted, or want of memory
 abbrev pub IsOr : Fault → Fault → Type 0
@@ -63,7 +63,7 @@ not_short_whole name bytes old at size tells held (end, told, after) S =
 module _ (line : ℕ) (name : List ℕ) (old new : Outside) (tells : IsTrue old.tells) (calm : IsCalm old new) where
   pub head_given : (fault : Fault) → GivesHead old name → IsSourceFault line name old new fault → fault ≡ Faults.OutOfMemory
   head_given (Faults.BadMedia which wav) G is = (let (bytes, held, bad) = is.2 tells in let (found, its, good) = G.held in absurd (no_head bytes found (old.file name) G.head wav held its bad good))
-  head_given Faults.ReadFault G is = absurd (calm is)
+  head_given Faults.ReadFault G is = absurd (calm is.rose)
   head_given (Faults.Absent which) G is = (let (found, its, good) = G.held in absurd (none_some found (old.file name) is.2 its))
   head_given Faults.OutOfMemory G is = refl
   head_given (Faults.Short which at size) G is = absurd (not_short name old at size G is.1)
@@ -76,7 +76,7 @@ module _ (line : ℕ) (name : List ℕ) (old new : Outside) (tells : IsTrue old.
 
   source_absent : (fault : Fault) → old.file name ≡ None → IsSourceFault line name old new fault → IsOr fault (Faults.Absent (Line line))
   source_absent (Faults.BadMedia which wav) none is = (let (bytes, held, bad) = is.2 tells in absurd (none_some bytes (old.file name) none held))
-  source_absent Faults.ReadFault none is = absurd (calm is)
+  source_absent Faults.ReadFault none is = absurd (calm is.rose)
   source_absent (Faults.Absent which) none is = inl (ap (λ (w : Which). Faults.Absent w) is.0)
   source_absent Faults.OutOfMemory none is = inr refl
   source_absent (Faults.Short which at size) none is = (let (bytes, held, long) = (is.1).whole tells in absurd (none_some bytes (old.file name) none held))
@@ -92,7 +92,7 @@ module _ (line : ℕ) (name : List ℕ) (old new : Outside) (tells : IsTrue old.
       (let (bytes, held, reads) = is.2 tells in
       let same = same_fault wav bad (Err wav) (Err bad) refl refl (same_answer B.bytes (Err wav) (Err bad) (subst (λ (b : List ℕ). Reads b (Err wav)) (same_bytes bytes B.bytes (old.file name) held B.held) reads) B.reads) in
       inl (ap (λ (w : Which). Faults.BadMedia w wav) is.0 ∙ ap (Faults.BadMedia (Line line)) same))
-  media_bad Faults.ReadFault bad B is = absurd (calm is)
+  media_bad Faults.ReadFault bad B is = absurd (calm is.rose)
   media_bad (Faults.Absent which) bad B is = absurd (none_some B.bytes (old.file name) is.2 B.held)
   media_bad Faults.OutOfMemory bad B is = inr refl
   media_bad (Faults.Short which at size) bad B is = absurd (not_short_whole name B.bytes old at size tells B.held B.given is.1)
@@ -133,7 +133,7 @@ module _ (line : ℕ) (name : List ℕ) (old new : Outside) (tells : IsTrue old.
   -- ---- the file of a sink
 
   pub known_given : (fault : Fault) → IsSome (old.file name) → IsKnownFault line name old new fault → fault ≡ Faults.OutOfMemory
-  known_given Faults.ReadFault there is = absurd (calm is)
+  known_given Faults.ReadFault there is = absurd (calm is.rose)
   known_given (Faults.Absent which) there is = absurd (none_there (old.file name) is.2 there)
   known_given Faults.OutOfMemory there is = refl
   known_given (Faults.BadMedia which wav) there is = absurd is
@@ -146,7 +146,7 @@ module _ (line : ℕ) (name : List ℕ) (old new : Outside) (tells : IsTrue old.
   known_given (Faults.NotRun at why) there is = absurd is
 
   pub known_absent : (fault : Fault) → IsKnownFault line name old new fault → IsOr fault (Faults.Absent (Line line))
-  known_absent Faults.ReadFault is = absurd (calm is)
+  known_absent Faults.ReadFault is = absurd (calm is.rose)
   known_absent (Faults.Absent which) is = inl (ap (λ (w : Which). Faults.Absent w) is.0)
   known_absent Faults.OutOfMemory is = inr refl
   known_absent (Faults.BadMedia which wav) is = absurd is
@@ -160,8 +160,8 @@ module _ (line : ℕ) (name : List ℕ) (old new : Outside) (tells : IsTrue old.
 
   -- ---- the log
 
-  pub log_absent : (fault : Fault) → old.file name ≡ None → IsLogFault name old new fault → IsOr fault (Faults.Absent Log)
-  log_absent Faults.ReadFault none is = absurd (calm is)
+  log_absent : (fault : Fault) → old.file name ≡ None → IsLogFault name old new fault → IsOr fault (Faults.Absent Log)
+  log_absent Faults.ReadFault none is = absurd (calm is.rose)
   log_absent (Faults.Absent which) none is = inl (ap (λ (w : Which). Faults.Absent w) is.0)
   log_absent Faults.OutOfMemory none is = inr refl
   log_absent (Faults.Short which at size) none is = absurd (none_there (old.file name) none (is.2 tells))
@@ -172,3 +172,52 @@ module _ (line : ℕ) (name : List ℕ) (old new : Outside) (tells : IsTrue old.
   log_absent (Faults.Units have need) none is = absurd is
   log_absent (Faults.Packets reason) none is = absurd is
   log_absent (Faults.NotRun at why) none is = absurd is
+
+  -- it gives nothing from that offset on
+  log_cut : (at size : ℕ) (fault : Fault) → IsCutAt name old at size → IsLogFault name old new fault → IsOr fault (Faults.Short Log at size)
+  log_cut at size Faults.ReadFault C is = absurd (calm is.rose)
+  log_cut at size (Faults.Absent which) C is = absurd (none_some C.bytes (old.file name) is.2 C.held)
+  log_cut at size Faults.OutOfMemory C is = inr refl
+  log_cut at size (Faults.Short which found whole) C is =
+      (let stopped : found ≡ at = (is.1).stopped at C.told_end in
+      let long : whole ≡ size = (is.1).whole C.bytes C.held ∙ sym C.whole in
+      inl (ap (λ (w : Which). Faults.Short w found whole) is.0 ∙ (ap (λ (n : ℕ). Faults.Short Log n whole) stopped ∙ ap (λ (n : ℕ). Faults.Short Log at n) long)))
+  log_cut at size (Faults.BadMedia which wav) C is = absurd is
+  log_cut at size (Faults.Script at_line why) C is = absurd is
+  log_cut at size Faults.Usage C is = absurd is
+  log_cut at size Faults.WriteFault C is = absurd is
+  log_cut at size (Faults.Units have need) C is = absurd is
+  log_cut at size (Faults.Packets reason) C is = absurd is
+  log_cut at size (Faults.NotRun at_line why) C is = absurd is
+
+  pub log_bad : (fault wanted : Fault) → IsBadLog name old wanted → IsLogFault name old new fault → IsOr fault wanted
+  log_bad fault (Faults.Absent which) B is = subst (λ (w : Which). IsOr fault (Faults.Absent w)) (sym B.0) (log_absent fault B.1 is)
+  log_bad fault (Faults.Short which at size) B is = subst (λ (w : Which). IsOr fault (Faults.Short w at size)) (sym B.0) (log_cut at size fault B.1 is)
+  log_bad fault (Faults.Script at why) B is = absurd B
+  log_bad fault Faults.Usage B is = absurd B
+  log_bad fault (Faults.BadMedia which wav) B is = absurd B
+  log_bad fault Faults.ReadFault B is = absurd B
+  log_bad fault Faults.WriteFault B is = absurd B
+  log_bad fault Faults.OutOfMemory B is = absurd B
+  log_bad fault (Faults.Units have need) B is = absurd B
+  log_bad fault (Faults.Packets reason) B is = absurd B
+  log_bad fault (Faults.NotRun at why) B is = absurd B
+
+  -- and so it wasn't read whole
+  pub log_unread : (wanted : Fault) → IsBadLog name old wanted → IsSome (old.file name) → IsLogGiven name old → ⊥
+  log_unread (Faults.Absent which) B there given = none_there (old.file name) B.1 there
+  log_unread (Faults.Short which at size) B there given =
+      (let C = B.1 in
+      let le = given C.bytes C.held at C.told_end in
+      let early = C.early in
+      let whole = C.whole in
+      omega (arith, le, early, whole))
+  log_unread (Faults.Script at why) B there given = B
+  log_unread Faults.Usage B there given = B
+  log_unread (Faults.BadMedia which wav) B there given = B
+  log_unread Faults.ReadFault B there given = B
+  log_unread Faults.WriteFault B there given = B
+  log_unread Faults.OutOfMemory B there given = B
+  log_unread (Faults.Units have need) B there given = B
+  log_unread (Faults.Packets reason) B there given = B
+  log_unread (Faults.NotRun at why) B there given = B

@@ -16,9 +16,10 @@ use Rattle.run_audit.specs.Files.{FileGoesOn, FilesGoOn, file_at, file_with}
 
 -- ---- what stays of an object
 
-module _ {S : Type 0} (size : S → ℕ) (told : S → Option (List ℕ)) (ends : S → Option ℕ) (offset faults : S → ℕ) where
-  source_same : (failed : Bool) (src : S) → SourceStays size told ends offset faults failed src src
+module _ {S : Type 0} (source_name : S → List ℕ) (size : S → ℕ) (told : S → Option (List ℕ)) (ends : S → Option ℕ) (offset faults : S → ℕ) where
+  source_same : (failed : Bool) (src : S) → SourceStays source_name size told ends offset faults failed src src
   source_same failed src = record {
+    name = refl;
     size = refl;
     told = refl;
     ends = refl;
@@ -27,8 +28,9 @@ module _ {S : Type 0} (size : S → ℕ) (told : S → Option (List ℕ)) (ends 
     stops = λ e end told_so. omega arith;
   }
 
-  source_then : (failed : Bool) (a b c : S) → SourceStays size told ends offset faults false a b → SourceStays size told ends offset faults failed b c → SourceStays size told ends offset faults failed a c
+  source_then : (failed : Bool) (a b c : S) → SourceStays source_name size told ends offset faults false a b → SourceStays source_name size told ends offset faults failed b c → SourceStays source_name size told ends offset faults failed a c
   source_then failed a b c F G = record {
+    name = G.name ∙ F.name;
     size = G.size ∙ F.size;
     told = G.told ∙ F.told;
     ends = G.ends ∙ F.ends;
@@ -37,8 +39,9 @@ module _ {S : Type 0} (size : S → ℕ) (told : S → Option (List ℕ)) (ends 
     stops = λ e end told_so. (let x : offset b ≤ max end (offset a) = F.stops refl end told_so in let y : offset c ≤ max end (offset b) = G.stops e end (F.ends ∙ told_so) in omega arith);
   }
 
-  source_fails : (failed : Bool) (a b : S) → SourceStays size told ends offset faults failed a b → SourceStays size told ends offset faults true a b
+  source_fails : (failed : Bool) (a b : S) → SourceStays source_name size told ends offset faults failed a b → SourceStays source_name size told ends offset faults true a b
   source_fails failed a b F = record {
+    name = F.name;
     size = F.size;
     told = F.told;
     ends = F.ends;
@@ -47,8 +50,9 @@ module _ {S : Type 0} (size : S → ℕ) (told : S → Option (List ℕ)) (ends 
     stops = λ e. absurd cc;
   }
 
-  source_joins : (a b c : S) → SourceStays size told ends offset faults true a b → SourceStays size told ends offset faults true b c → SourceStays size told ends offset faults true a c
+  source_joins : (a b c : S) → SourceStays source_name size told ends offset faults true a b → SourceStays source_name size told ends offset faults true b c → SourceStays source_name size told ends offset faults true a c
   source_joins a b c F G = record {
+    name = G.name ∙ F.name;
     size = G.size ∙ F.size;
     told = G.told ∙ F.told;
     ends = G.ends ∙ F.ends;
@@ -101,29 +105,29 @@ module _ {S C : Type 0} (see : Sight S (ComparingValue S) C) where
   pub goes_same : (failed : Bool) (a b : Option (PartFile S (ComparingValue S))) → b ≡ a → FileGoesOn see failed a b
   goes_same failed a b e =
       subst (FileGoesOn see failed a) (sym e)
-      (file_same (SourceStays see.reads.size see.reads.told see.reads.ends see.reads.offset see.reads.faults failed) (SinkStays see.writes.name see.writes.faults)
-      (source_same see.reads.size see.reads.told see.reads.ends see.reads.offset see.reads.faults failed) (sink_same see.writes.name see.writes.faults) a)
+      (file_same (SourceStays see.reads.name see.reads.size see.reads.told see.reads.ends see.reads.offset see.reads.faults failed) (SinkStays see.writes.name see.writes.faults)
+      (source_same see.reads.name see.reads.size see.reads.told see.reads.ends see.reads.offset see.reads.faults failed) (sink_same see.writes.name see.writes.faults) a)
 
   pub files_same : (failed : Bool) (old new : Replay S C) → ((place : ℕ) → file_at see new place ≡ file_at see old place) → FilesGoOn see failed old new
   files_same failed old new e place = goes_same failed (file_at see old place) (file_at see new place) (e place)
 
   pub files_fail : (failed : Bool) (old new : Replay S C) → FilesGoOn see failed old new → FilesGoOn see true old new
   files_fail failed old new F place =
-      file_map (SourceStays see.reads.size see.reads.told see.reads.ends see.reads.offset see.reads.faults failed) (SourceStays see.reads.size see.reads.told see.reads.ends see.reads.offset see.reads.faults true)
-      (SinkStays see.writes.name see.writes.faults) (source_fails see.reads.size see.reads.told see.reads.ends see.reads.offset see.reads.faults failed) (file_at see old place) (file_at see new place) (F place)
+      file_map (SourceStays see.reads.name see.reads.size see.reads.told see.reads.ends see.reads.offset see.reads.faults failed) (SourceStays see.reads.name see.reads.size see.reads.told see.reads.ends see.reads.offset see.reads.faults true)
+      (SinkStays see.writes.name see.writes.faults) (source_fails see.reads.name see.reads.size see.reads.told see.reads.ends see.reads.offset see.reads.faults failed) (file_at see old place) (file_at see new place) (F place)
 
   pub files_then : (failed : Bool) (a b c : Replay S C) → FilesGoOn see false a b → FilesGoOn see failed b c → FilesGoOn see failed a c
   files_then failed a b c F G place =
-      file_then (SourceStays see.reads.size see.reads.told see.reads.ends see.reads.offset see.reads.faults false) (SourceStays see.reads.size see.reads.told see.reads.ends see.reads.offset see.reads.faults failed)
-      (SourceStays see.reads.size see.reads.told see.reads.ends see.reads.offset see.reads.faults failed) (SinkStays see.writes.name see.writes.faults)
-      (source_then see.reads.size see.reads.told see.reads.ends see.reads.offset see.reads.faults failed) (sink_then see.writes.name see.writes.faults)
+      file_then (SourceStays see.reads.name see.reads.size see.reads.told see.reads.ends see.reads.offset see.reads.faults false) (SourceStays see.reads.name see.reads.size see.reads.told see.reads.ends see.reads.offset see.reads.faults failed)
+      (SourceStays see.reads.name see.reads.size see.reads.told see.reads.ends see.reads.offset see.reads.faults failed) (SinkStays see.writes.name see.writes.faults)
+      (source_then see.reads.name see.reads.size see.reads.told see.reads.ends see.reads.offset see.reads.faults failed) (sink_then see.writes.name see.writes.faults)
       (file_at see a place) (file_at see b place) (file_at see c place) (F place) (G place)
 
   pub files_join : (a b c : Replay S C) → FilesGoOn see true a b → FilesGoOn see true b c → FilesGoOn see true a c
   files_join a b c F G place =
-      file_then (SourceStays see.reads.size see.reads.told see.reads.ends see.reads.offset see.reads.faults true) (SourceStays see.reads.size see.reads.told see.reads.ends see.reads.offset see.reads.faults true)
-      (SourceStays see.reads.size see.reads.told see.reads.ends see.reads.offset see.reads.faults true) (SinkStays see.writes.name see.writes.faults)
-      (source_joins see.reads.size see.reads.told see.reads.ends see.reads.offset see.reads.faults) (sink_then see.writes.name see.writes.faults)
+      file_then (SourceStays see.reads.name see.reads.size see.reads.told see.reads.ends see.reads.offset see.reads.faults true) (SourceStays see.reads.name see.reads.size see.reads.told see.reads.ends see.reads.offset see.reads.faults true)
+      (SourceStays see.reads.name see.reads.size see.reads.told see.reads.ends see.reads.offset see.reads.faults true) (SinkStays see.writes.name see.writes.faults)
+      (source_joins see.reads.name see.reads.size see.reads.told see.reads.ends see.reads.offset see.reads.faults) (sink_then see.writes.name see.writes.faults)
       (file_at see a place) (file_at see b place) (file_at see c place) (F place) (G place)
 
 -- ---- where they are

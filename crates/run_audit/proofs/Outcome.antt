@@ -1,5 +1,6 @@
 -- What an audit comes to.
 use Rattle.std.proofs.Common.{◌≡◌, ◌≢◌, inl, inr, ℕ, ◌+◌, ◌-◌, ◌<◌, ◌≤◌, ◌^◌, Bool, List, [], ◌∷◌, ◌++◌, length, slice_get, Option, Some, None, Result, Ok, Err, IfErr, IfOk, OnOk, IsSome, IsTrue, false, option_map, refl, sym, ◌∙◌, ap, subst, arith}
+use Rattle.std.specs.List.{sum_by}
 use Rattle.std.specs.Result.{is_ok}
 use Rattle.omx_types.specs.declared.fault.Fault.{Fault}
 use Rattle.omx_types.specs.declared.fault.Fault.TheVariants as Faults
@@ -10,7 +11,8 @@ use Rattle.outside_io.specs.declared.source.Source.{Ghosts as SourceGhosts}
 use Rattle.outside_io.specs.declared.whole.Unread.{Unread}
 use Rattle.outside_io.specs.declared.whole.Unread.TheVariants as reasons
 use Rattle.outside_io.specs.Causes.{Rose}
-use Rattle.outside_io.specs.Files.{AbsencesStand, CountsStand, GoesOn, Outside, TellsAbsence}
+use Rattle.outside_io.specs.Moves.{WhereTold}
+use Rattle.outside_io.specs.Files.{AbsencesStand, CountsStand, GoesOn, Outside, TellsAbsence, with_names}
 use Rattle.outside_io.specs.Whole.{HasReadReason, IsShort, WasOpened as WasFound}
 use Rattle.audio_parts.specs.declared.part_file.PartFile.{PartFile}
 use Rattle.audio_parts.specs.declared.part_file.PartFile.TheVariants as files
@@ -22,9 +24,10 @@ use Rattle.script_lang.specs.declared.script.Script.TheVariants.{Play, Trace}
 use Rattle.play_forms.specs.Plans.{IsPlanOfScript, PlanValue}
 use Rattle.play_course.specs.Settling.{parts_of}
 use Rattle.play_files.specs.Asked.{HasAskedFor, read_names, written_names}
-use Rattle.play_files.specs.Closing.{AreClosed}
+use Rattle.play_files.specs.Closing.{AreClosed, failed_reads}
 use Rattle.play_files.specs.Seen.{SinkSeen, Writes, files_seen}
 use Rattle.play_files.proofs.Asking.{asked_then}
+use Rattle.play_files.proofs.Closings.{unread_names}
 use Rattle.play_files.proofs.Stopped.{unseen_at}
 use Rattle.play_course.specs.Outcomes.{WasOpened}
 use Rattle.il_graph.specs.Shown.{offered}
@@ -38,6 +41,7 @@ use Rattle.run_audit.specs.declared.auditing.AuditFault.{AuditFault}
 use Rattle.run_audit.specs.declared.replaying.Replayed.{Replayed}
 use Rattle.run_audit.specs.declared.replaying.Replayed.TheVariants as comes
 use Rattle.run_audit.specs.Auditing.{AreFound, HasVerdict, IsBrokenOff, IsJudged, IsLogFault, IsLogOfPlay, IsLogThere, IsLogUnread, IsMetBy, IsNoPlayLog, IsNotRun, IsPlayRun, IsStepFault, IsUnaudited, fault_of_step, fault_of_unread, outcome_of}
+use Rattle.run_audit.specs.Faults.{IsLogGiven}
 use Rattle.run_audit.specs.Opening.{play_sight}
 use Rattle.run_audit.specs.Replayed.{AreGiven, FilesComeBack, IsVerdictBy, OnFailure, OnVerdict}
 use Rattle.run_audit.specs.Seeing.{compared}
@@ -80,7 +84,7 @@ given_so reads script old mid plan before A name lines text is now e =
 
 -- ---- the log
 
-pub is_there : {held : Option (List ℕ)} {text : List ℕ} → held ≡ Some text → IsSome held
+is_there : {held : Option (List ℕ)} {text : List ℕ} → held ≡ Some text → IsSome held
 is_there {held} {text} e = subst (λ (o : Option (List ℕ)). IsSome o) (sym e) refl
 
 module _ {S : Type 0} (reads : SourceGhosts S) (script : Script) (log : List ℕ) (old mid late new : Outside) (plan : PlanValue) (before after : List (Option (PartFile S (ComparingValue S)))) (A : AreCompared reads script old mid plan before)
@@ -110,14 +114,20 @@ module _ {S : Type 0} (reads : SourceGhosts S) (script : Script) (log : List ℕ
 
   -- ---- the log wasn't read
 
-  log_why : (unread : Unread) → HasReadReason log (2 ^ 64 - 1) mid late unread → (IsTrue mid.tells → WasFound unread → IsSome (mid.file log)) → IsLogFault log old new (fault_of_unread unread)
-  log_why reasons.Absent r there =
+  log_why : (unread : Unread) → HasReadReason log (2 ^ 64 - 1) mid late unread → (IsTrue mid.tells → WasFound unread → IsSome (mid.file log)) → sum_by failed_reads (files_seen (read_seen reads) after) ≡ 0
+      → IsLogFault log old new (fault_of_unread unread)
+  log_why reasons.Absent r there calm =
       let a = (A.still).absences in
       let b = C.absences in
       (refl, subst (λ (n : ℕ). Rose n new.absences) a (subst (λ (n : ℕ). Rose mid.absences n) (sym b) r.0), ap (λ (f : List ℕ → Option (List ℕ)). f log) (sym (A.still).files) ∙ r.1)
-  log_why reasons.Failed r there = let a = (A.still).reads in let b = (C.goes_on).read_faults in omega (arith, r, a, b)
-  log_why (reasons.TooLong size) r there = tt
-  log_why (reasons.Short at size) r there = (
+  log_why reasons.Failed r there calm = record {
+    rose = (let a = (A.still).reads in let b = (C.goes_on).read_faults in let rose = r.rose in omega (arith, rose, a, b));
+    named = λ t.
+        (let n = r.named (((A.still).goes_on).tells ∙ t) in
+        (n.0, n.1, n.2, unread_names (files_seen (read_seen reads) after) late.failed_reads new.failed_reads calm C.named_reads ∙ (n.3 ∙ ap (with_names n.0) (A.still).unread)));
+  }
+  log_why (reasons.TooLong size) r there calm = tt
+  log_why (reasons.Short at size) r there calm = (
     refl,
     record {
       below = r.below;
@@ -126,7 +136,7 @@ module _ {S : Type 0} (reads : SourceGhosts S) (script : Script) (log : List ℕ
     },
     log_there (λ t. there t tt),
   )
-  log_why reasons.OutOfMemory r there = tt
+  log_why reasons.OutOfMemory r there calm = tt
 
   log_absent : (unread : Unread) → (unread ≢ reasons.Absent → late.absences ≡ mid.absences) → TellsAbsence Faults.Absent old new (fault_of_unread unread)
   log_absent reasons.Absent k none = absurd (none Log refl)
@@ -136,15 +146,15 @@ module _ {S : Type 0} (reads : SourceGhosts S) (script : Script) (log : List ℕ
   log_absent reasons.OutOfMemory k none = C.absences ∙ (k (λ e. cc) ∙ (A.still).absences)
 
   pub unread_log : (unread : Unread) (fault : Fault) → fault ≡ fault_of_unread unread → HasReadReason log (2 ^ 64 - 1) mid late unread → (IsTrue mid.tells → WasFound unread → IsSome (mid.file log)) → ((unread ≢ reasons.Absent) → late.absences ≡ mid.absences)
-      → ((unread ≢ reasons.OutOfMemory) → HasAskedFor mid late (log ∷ [])) → IsUnaudited script log old new fault
-  unread_log unread fault is why there absences asked = subst (IsUnaudited script log old new) (sym is) (inr (inl (record {
+      → ((unread ≢ reasons.OutOfMemory) → HasAskedFor mid late (log ∷ [])) → sum_by failed_reads (files_seen (read_seen reads) after) ≡ 0 → IsUnaudited script log old new fault
+  unread_log unread fault is why there absences asked calm = subst (IsUnaudited script log old new) (sym is) (inr (inl (record {
     plan = plan;
     files = A.known;
     opened = opened;
     found = found;
     asked = λ n. C.openings ∙ asked_then old mid late (read_names plan.parts ++ written_names plan.parts) (log ∷ []) A.asked (asked (not_memory unread n));
     unabsent = log_absent unread absences;
-    why = log_why unread why there;
+    why = log_why unread why there calm;
   })))
     where
       not_memory : (u : Unread) → fault_of_unread u ≢ Faults.OutOfMemory → u ≢ reasons.OutOfMemory
@@ -152,7 +162,22 @@ module _ {S : Type 0} (reads : SourceGhosts S) (script : Script) (log : List ℕ
 
   -- ---- it was
 
-  module _ (asked : HasAskedFor mid late (log ∷ [])) (absences : late.absences ≡ mid.absences) (still_reads : late.read_faults ≡ mid.read_faults) (there : IsTrue mid.tells → IsSome (mid.file log)) where
+  module _ (asked : HasAskedFor mid late (log ∷ [])) (absences : late.absences ≡ mid.absences) (still_reads : late.read_faults ≡ mid.read_faults) (still_names : late.failed_reads ≡ mid.failed_reads)
+      (text : List ℕ) (held : IsTrue mid.tells → mid.file log ≡ Some text) (given : WhereTold (mid.ends log) (λ end. length text ≤ end)) where
+    there : IsTrue mid.tells → IsSome (mid.file log)
+    there t = is_there (held t)
+
+    held_old : IsTrue old.tells → old.file log ≡ Some text
+    held_old t = ap (λ (f : List ℕ → Option (List ℕ)). f log) (sym (A.still).files) ∙ held (((A.still).goes_on).tells ∙ t)
+
+    all_given : IsTrue old.tells → IsLogGiven log old
+    all_given t known is end at =
+        let le = given end (ap (λ (f : List ℕ → Option ℕ). f log) ((A.still).goes_on).ends ∙ at) in
+        let same : Some known ≡ Some text = sym is ∙ held_old t in
+        let e : known ≡ text = cc in
+        let long = ap length e in
+        omega (arith, le, long)
+
     all_asked : HasAskedFor old new ((read_names plan.parts ++ written_names plan.parts) ++ log ∷ [])
     all_asked = C.openings ∙ asked_then old mid late (read_names plan.parts ++ written_names plan.parts) (log ∷ []) A.asked asked
 
@@ -160,29 +185,28 @@ module _ {S : Type 0} (reads : SourceGhosts S) (script : Script) (log : List ℕ
     stood = C.absences ∙ (absences ∙ (A.still).absences)
 
     pub broken : (fault : Fault) → IsStepFault plan.parts old new fault → IsUnaudited script log old new fault
-    broken fault why = inr (inr (record { plan = plan; files = A.known; opened = opened; found = found; log_there = log_there there; asked = all_asked; absences = stood; why = why }))
+    broken fault why = inr (inr (record { plan = plan; files = A.known; opened = opened; found = found; log_there = log_there there; log_given = all_given; asked = all_asked; absences = stood; why = why }))
 
     -- the count rose while they were closed
-    pub risen : (new.read_faults ≡ late.read_faults → ⊥) → IsUnaudited script log old new Faults.ReadFault
-    risen n = broken Faults.ReadFault (let a = (C.goes_on).read_faults in let b = (A.still).reads in omega (arith, n, a, b, still_reads))
+    pub risen : late.read_faults < 2 ^ 64 → length after ≡ length before → FilesComeBack (play_sight reads) plan before after → (new.read_faults ≡ late.read_faults → ⊥) → IsUnaudited script log old new Faults.ReadFault
+    risen few many back n =
+        broken Faults.ReadFault
+        (causes.risen reads script old mid plan before A late new after (still_reads ∙ (A.still).reads) (still_names ∙ (A.still).unread) few many back C n)
 
     pub counts : new.read_faults ≡ late.read_faults → CountsStand old new
     counts e = record { reads = e ∙ (still_reads ∙ (A.still).reads); writes = new_writes }
 
     pub judges : (verdict : Verdict) → HasVerdict script log old verdict → IsJudged script log old new verdict
-    judges verdict V = record { plan = plan; files = A.known; opened = opened; found = found; log_there = log_there there; asked = all_asked; absences = stood; told = V }
+    judges verdict V = record { plan = plan; files = A.known; opened = opened; found = found; log_there = log_there there; log_given = all_given; asked = all_asked; absences = stood; told = V }
 
     -- ---- what the replay came to
 
-    module _ (text : List ℕ) (held : IsTrue mid.tells → mid.file log ≡ Some text) (name its : List ℕ) (lines : List ℕ) (is_script : IsPlayScript name lines its script) where
-      held_old : IsTrue old.tells → old.file log ≡ Some text
-      held_old t = ap (λ (f : List ℕ → Option (List ℕ)). f log) (sym (A.still).files) ∙ held (((A.still).goes_on).tells ∙ t)
-
+    module _ (name its : List ℕ) (lines : List ℕ) (is_script : IsPlayScript name lines its script) where
       pub verdict_of : (verdict : Verdict) → (IsTrue old.tells → IsVerdictBy plan A.known (judged.sinks_of old.tells old plan) text verdict) → HasVerdict script log old verdict
       verdict_of verdict V = judged.has_verdict reads script old mid plan before A log text verdict held_old V
 
       module _ (few : late.read_faults < 2 ^ 64) (replayed : Replayed) (V : IsTrue old.tells → OnVerdict replayed (IsVerdictBy plan A.known (judged.sinks_of old.tells old plan) text))
-          (back : FilesComeBack (play_sight reads) plan before after) (failed : OnFailure (play_sight reads) plan before after replayed) (met : IsMetBy reads after replayed) where
+          (many : length after ≡ length before) (back : FilesComeBack (play_sight reads) plan before after) (failed : OnFailure (play_sight reads) plan before after replayed) (met : IsMetBy reads after replayed) where
         pub says_yes : IfOk (outcome_of plan.parts after replayed) (λ acts. HasVerdict script log old (Yes acts))
         says_yes = by replayed V
           where
@@ -209,7 +233,7 @@ module _ {S : Type 0} (reads : SourceGhosts S) (script : Script) (log : List ℕ
             by (comes.No line why) v f m = judges (No line why) (verdict_of (No line why) v)
             by (comes.Failed component fault) v f m =
                 broken (fault_of_step (slice_get plan.parts component) (slice_get after component) fault)
-                (causes.step_cause reads script old mid late new plan before after A (still_reads ∙ (A.still).reads) few C component fault f.0 f.1 (λ file e. back component file f.0 e) m)
+                (causes.step_cause reads script old mid plan before A late new after (still_reads ∙ (A.still).reads) (still_names ∙ (A.still).unread) few many back C component fault f.0 f.1 m)
             by comes.OutOfMemory v f m = broken Faults.OutOfMemory tt
 
         -- a play's log has a yes, and so no no

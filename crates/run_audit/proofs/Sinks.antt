@@ -2,18 +2,7 @@
 use Rattle.std.proofs.Common.{◌≡◌, ℕ, zero, suc, List, [], ◌∷◌, ◌++◌, length, take, Option, Some, None, refl, sym, ◌∙◌, ap, subst, append-nil}
 use Rattle.std.specs.Io.KnownBytes.{append_known}
 use Rattle.outside_io.specs.Moves.{WhereTold}
-use Rattle.compared_files.specs.Comparing.{ComparingValue, IsFrontless, bytes_word, given_by, known_by, told_by}
-
--- ---- a file is told apart by its name
-
-bytes_same : (one other : Option (List ℕ)) → bytes_word one ≡ bytes_word other → one ≡ other
-bytes_same None None e = refl
-bytes_same None (Some bytes) e = absurd cc
-bytes_same (Some bytes) None e = absurd cc
-bytes_same (Some bytes) (Some others) e = let same : bytes ≡ others = cc in ap Some same
-
-pub known_same : (told other : Option (List ℕ)) (ends more : Option ℕ) → known_by told ends ≡ known_by other more → told ≡ other
-known_same told other ends more e = let same : bytes_word told ≡ bytes_word other = cc in bytes_same told other same
+use Rattle.compared_files.specs.Comparing.{ComparingValue, IsFrontless, given_by, told_by}
 
 -- ---- fronts
 

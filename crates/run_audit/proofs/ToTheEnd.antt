@@ -12,6 +12,7 @@ use Rattle.play_forms.specs.Plans.{PlanValue}
 use Rattle.play_result_laws.specs.Files.{IsWriter}
 use Rattle.play_course.specs.Settling.{parts_of}
 use Rattle.compared_files.specs.Comparing.{ComparingValue, IsGivenToEnd}
+use Rattle.compared_files.proofs.Known.{known_bytes, known_ends}
 use Rattle.audit_files.specs.Compared.{AreCompared, IsComparedBy}
 use Rattle.run_audit.specs.declared.auditing.AuditFault.{AuditFault}
 use Rattle.run_audit.specs.declared.replaying.Replayed.{Replayed}
@@ -22,7 +23,6 @@ use Rattle.run_audit.specs.Faults.{AreGivenToEnd}
 use Rattle.run_audit.specs.Files.{FileGoesOn}
 use Rattle.run_audit.specs.Opening.{play_sight}
 use Rattle.run_audit.specs.Replayed.{FilesComeBack}
-use Rattle.run_audit.proofs.Causes.{known_bytes, known_ends}
 use Rattle.run_audit.proofs.Outcome.{parts_so}
 
 module _ {S : Type 0} (reads : SourceGhosts S) (script : Script) (old mid : Outside) (plan : PlanValue) (before after : List (Option (PartFile S (ComparingValue S)))) (A : AreCompared reads script old mid plan before)
@@ -31,8 +31,8 @@ module _ {S : Type 0} (reads : SourceGhosts S) (script : Script) (old mid : Outs
   by_file : (planned : ℕ) (name : List ℕ) (file then : Option (PartFile S (ComparingValue S))) → IsComparedBy reads old planned name file → FileGoesOn (play_sight reads) true file then → GivesAll reads.told reads.ends then → IsGivenToEnd (old.file name) (old.ends name)
   by_file planned name (Some (files.To snk frames)) (Some (files.To now count)) I on gives =
       let same = (on.1).name in
-      let told : old.file name ≡ reads.told now.src = sym ((I.2).told) ∙ sym (known_bytes (reads.told now.src) (reads.told snk.src) (reads.ends now.src) (reads.ends snk.src) same) in
-      let ends : old.ends name ≡ reads.ends now.src = sym ((I.2).ends) ∙ sym (known_ends (reads.told now.src) (reads.told snk.src) (reads.ends now.src) (reads.ends snk.src) same) in
+      let told : old.file name ≡ reads.told now.src = sym ((I.2).told) ∙ sym (known_bytes (reads.name now.src) (reads.name snk.src) (reads.told now.src) (reads.told snk.src) (reads.ends now.src) (reads.ends snk.src) same) in
+      let ends : old.ends name ≡ reads.ends now.src = sym ((I.2).ends) ∙ sym (known_ends (reads.name now.src) (reads.name snk.src) (reads.told now.src) (reads.told snk.src) (reads.ends now.src) (reads.ends snk.src) same) in
       λ known is end at. gives known (sym told ∙ is) end (sym ends ∙ at)
   by_file planned name (Some (files.To snk frames)) (Some (files.From src format count)) I on gives = absurd on
   by_file planned name (Some (files.To snk frames)) None I on gives = absurd on

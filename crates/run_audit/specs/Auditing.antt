@@ -12,7 +12,7 @@ use Rattle.outside_io.specs.declared.whole.Unread.{Unread}
 use Rattle.outside_io.specs.declared.whole.Unread.TheVariants as reasons
 use Rattle.outside_io.specs.Causes.{Rose}
 use Rattle.outside_io.specs.Moves.{WhereTold}
-use Rattle.outside_io.specs.Files.{AbsencesStand, Outside, TellsAbsence}
+use Rattle.outside_io.specs.Files.{AbsencesStand, IsFailedRead, Outside, TellsAbsence}
 use Rattle.outside_io.specs.Whole.{IsShort}
 use Rattle.audio_parts.specs.declared.part_file.PartFile.{PartFile}
 use Rattle.audio_parts.specs.declared.part_file.PartFile.TheVariants as files
@@ -37,6 +37,7 @@ use Rattle.audit_forms.specs.Audited.{No, Verdict, Yes}
 use Rattle.audit_forms.specs.Whole.{IsAudited}
 use Rattle.audit_laws.specs.Played.{IsPlayedBy}
 use Rattle.run_audit.specs.declared.auditing.AuditFault.{AuditFault}
+use Rattle.run_audit.specs.Faults.{IsLogGiven}
 use Rattle.run_audit.specs.declared.auditing.AuditFault.TheVariants as audits
 use Rattle.run_audit.specs.declared.replaying.Replayed.{Replayed}
 use Rattle.run_audit.specs.declared.replaying.Replayed.TheVariants as comes
@@ -54,13 +55,14 @@ pub record AreFound (old : Outside) (plan : PlanValue) (files : PlayFiles) : Typ
 abbrev pub IsLogThere : List ℕ → Outside → Type 0
 IsLogThere log old = IsTrue old.tells → IsSome (old.file log)
 
--- All files were opened, and the log was read, the last of all; no absence was counted.
+-- All files were opened, and the log was read, the last of all, which gave all its bytes; no absence was counted.
 pub record IsJudged (script : Script) (log : List ℕ) (old new : Outside) (verdict : Verdict) : Type 0 where
   pub plan : PlanValue
   pub files : PlayFiles
   pub opened : WasOpened script old plan files
   pub found : AreFound old plan files
   pub log_there : IsLogThere log old
+  pub log_given : IsTrue old.tells → IsLogGiven log old
   pub asked : HasAskedFor old new ((read_names plan.parts ++ written_names plan.parts) ++ log ∷ [])
   pub absences : AbsencesStand old new
   pub told : HasVerdict script log old verdict
@@ -70,7 +72,7 @@ pub record IsJudged (script : Script) (log : List ℕ) (old new : Outside) (verd
 -- why the log wasn't read
 abbrev pub IsLogFault : List ℕ → Outside → Outside → Fault → Type 0
 IsLogFault log old new Faults.OutOfMemory = Unit {0}
-IsLogFault log old new Faults.ReadFault = Rose old.read_faults new.read_faults
+IsLogFault log old new Faults.ReadFault = IsFailedRead (log ∷ []) old new
 IsLogFault log old new (Faults.Absent which) = (which ≡ Log) × Rose old.absences new.absences × (old.file log ≡ None)
 IsLogFault log old new (Faults.Short which at size) = (which ≡ Log) × IsShort log old at size × IsLogThere log old
 IsLogFault log old new other = ⊥
@@ -89,7 +91,7 @@ pub record IsShortFile (parts : List PartLine) (old : Outside) (which : Which) (
 -- why the replay broke off
 abbrev pub IsStepFault : List PartLine → Outside → Outside → Fault → Type 0
 IsStepFault parts old new Faults.OutOfMemory = Unit {0}
-IsStepFault parts old new Faults.ReadFault = Rose old.read_faults new.read_faults
+IsStepFault parts old new Faults.ReadFault = IsFailedRead (read_names parts ++ written_names parts) old new
 IsStepFault parts old new (Faults.Short which at size) = IsShortFile parts old which at size
 IsStepFault parts old new other = ⊥
 
@@ -148,13 +150,14 @@ pub record IsLogUnread (script : Script) (log : List ℕ) (old new : Outside) (f
   pub unabsent : TellsAbsence Faults.Absent old new fault
   pub why : IsLogFault log old new fault
 
--- the log was read, but the replay broke off: a step failed, or memory was wanted
+-- the log was read, and gave all its bytes, but the replay broke off: a step failed, or memory was wanted
 pub record IsBrokenOff (script : Script) (log : List ℕ) (old new : Outside) (fault : Fault) : Type 0 where
   pub plan : PlanValue
   pub files : PlayFiles
   pub opened : WasOpened script old plan files
   pub found : AreFound old plan files
   pub log_there : IsLogThere log old
+  pub log_given : IsTrue old.tells → IsLogGiven log old
   pub asked : HasAskedFor old new ((read_names plan.parts ++ written_names plan.parts) ++ log ∷ [])
   pub absences : AbsencesStand old new
   pub why : IsStepFault plan.parts old new fault

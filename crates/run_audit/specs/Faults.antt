@@ -11,10 +11,10 @@ use Rattle.script_lang.specs.declared.play_line.PartLine.{PartLine}
 use Rattle.script_lang.specs.declared.script.Script.{Script}
 use Rattle.play_forms.specs.declared.plan_fault.PlanFault.{PlanFault}
 use Rattle.play_forms.specs.declared.plan_fault.PlanFault.TheVariants as Plans
-use Rattle.play_forms.specs.Plans.{IsFaultOfScript, IsFitFault, IsFitted, IsPlanOfScript, PlanValue}
+use Rattle.play_forms.specs.Plans.{IsFaultOfScript, IsFit, IsFitFault, IsPlanOfScript, PlanValue}
 use Rattle.play_result_laws.specs.Files.{IsReader, IsWriter, read_by, written_by}
 use Rattle.play_files.specs.Faults.{fault_of_plan}
-use Rattle.play_files.specs.Left.{HaveHeads}
+use Rattle.play_files.specs.Left.{IsFittedTo}
 use Rattle.play_files.specs.Opening.{HasHead}
 use Rattle.play_course.specs.Settling.{parts_of}
 use Rattle.compared_files.specs.Comparing.{IsGivenToEnd}
@@ -69,26 +69,20 @@ pub record AsksBySource (script : Script) (old : Outside) (fault : Fault) : Type
 
 -- ---- the formats, once all sources have heads
 
-pub record HasSources (script : Script) (old : Outside) : Type 0 where
-  pub plan : PlanValue
-  pub is_plan : IsPlanOfScript script plan
+-- fitted to the heads of its told sources, the plan has this fault
+pub record AsksByFormats (script : Script) (old : Outside) (fault : Fault) : Type 0 where
   pub sources : GiveHeads old (parts_of script) (length (parts_of script))
-
--- fitted to the heads of the told sources the plan has this fault
-abbrev pub IsMisfitBy : Script → Outside → PlanFault → Type 0
-IsMisfitBy script old why = (planned fitted : PlanValue) (heads : List WavHead) → IsPlanOfScript script planned
-    → HaveHeads old planned.parts (length planned.parts) heads → IsFitted planned heads fitted → IsFitFault fitted why
+  pub fitted : PlanValue
+  pub fits_to : IsFittedTo script old fitted
+  pub why : PlanFault
+  pub misfits : IsFitFault fitted why
+  pub told : fault ≡ fault_of_plan why
 
 -- and so it has none
-abbrev pub IsFitBy : Script → Outside → Type 0
-IsFitBy script old = (planned fitted : PlanValue) (heads : List WavHead) (why : PlanFault) → IsPlanOfScript script planned
-    → HaveHeads old planned.parts (length planned.parts) heads → IsFitted planned heads fitted → IsFitFault fitted why → ⊥
-
-pub record AsksByFormats (script : Script) (old : Outside) (fault : Fault) : Type 0 where
-  pub has : HasSources script old
-  pub why : PlanFault
-  pub misfits : IsMisfitBy script old why
-  pub told : fault ≡ fault_of_plan why
+pub record IsFitBy (script : Script) (old : Outside) : Type 0 where
+  pub fitted : PlanValue
+  pub fits_to : IsFittedTo script old fitted
+  pub fit : IsFit fitted
 
 -- ---- the sinks, once the plan fits
 
@@ -97,7 +91,7 @@ AreThere old parts count = (place : ℕ) (name : List ℕ) → place < count →
 
 -- the file of a sink isn't there; those of the sinks before it are
 pub record AsksBySink (script : Script) (old : Outside) (fault : Fault) : Type 0 where
-  pub has : HasSources script old
+  pub sources : GiveHeads old (parts_of script) (length (parts_of script))
   pub fits : IsFitBy script old
   pub place : ℕ
   pub part : PartLine
@@ -110,12 +104,25 @@ pub record AsksBySink (script : Script) (old : Outside) (fault : Fault) : Type 0
 
 -- ---- the log, once the sinks' files are there
 
+-- the told file of that name gives nothing from this offset on, which is below its size
+pub record IsCutAt (name : List ℕ) (old : Outside) (at size : ℕ) : Type 0 where
+  pub bytes : List ℕ
+  pub held : old.file name ≡ Some bytes
+  pub whole : size ≡ length bytes
+  pub told_end : old.ends name ≡ Some at
+  pub early : at < size
+
+-- it isn't there, or ends early
+abbrev pub IsBadLog : List ℕ → Outside → Fault → Type 0
+IsBadLog log old (Faults.Absent which) = (which ≡ Log) × (old.file log ≡ None)
+IsBadLog log old (Faults.Short which at size) = (which ≡ Log) × IsCutAt log old at size
+IsBadLog log old other = ⊥
+
 pub record AsksByLog (script : Script) (log : List ℕ) (old : Outside) (fault : Fault) : Type 0 where
-  pub has : HasSources script old
+  pub sources : GiveHeads old (parts_of script) (length (parts_of script))
   pub fits : IsFitBy script old
   pub sinks : AreThere old (parts_of script) (length (parts_of script))
-  pub absent : old.file log ≡ None
-  pub told : fault ≡ Faults.Absent Log
+  pub bad : IsBadLog log old fault
 
 -- ---- the whole
 
@@ -133,3 +140,7 @@ TellsOrMemory result fault = (result ≡ Err (audits.Fault fault)) ⊎ (result �
 -- the told file of each sink gives all its bytes
 abbrev pub AreGivenToEnd : Script → Outside → Type 0
 AreGivenToEnd script old = (place : ℕ) (name : List ℕ) → IsWriter (parts_of script) place name → IsGivenToEnd (old.file name) (old.ends name)
+
+-- so does the told log
+abbrev pub IsLogGiven : List ℕ → Outside → Type 0
+IsLogGiven log old = IsGivenToEnd (old.file log) (old.ends log)

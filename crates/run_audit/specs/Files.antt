@@ -23,7 +23,7 @@ module _ {S C : Type 0} (see : Sight S (ComparingValue S) C) where
   -- a component has no file then and now, or the object that it had, read or written further; also where a step failed
   abbrev pub FileGoesOn : Bool → Option (PartFile S (ComparingValue S)) → Option (PartFile S (ComparingValue S)) → Type 0
   FileGoesOn failed before now =
-      BothOrNone (FileStays (SourceStays see.reads.size see.reads.told see.reads.ends see.reads.offset see.reads.faults failed) (SinkStays see.writes.name see.writes.faults)) before now
+      BothOrNone (FileStays (SourceStays see.reads.name see.reads.size see.reads.told see.reads.ends see.reads.offset see.reads.faults failed) (SinkStays see.writes.name see.writes.faults)) before now
 
   abbrev pub FilesGoOn : Bool → Replay S C → Replay S C → Type 0
   FilesGoOn failed old new = (place : ℕ) → FileGoesOn failed (file_at old place) (file_at new place)

@@ -9,7 +9,7 @@ use Rattle.graph_acts.specs.Plain.{Sight, sight_of}
 abbrev pub compared : {S : Type 0} → SourceGhosts S → SinkGhosts (ComparingValue S)
 compared reads = record {
   told = λ snk. told_by (reads.told snk.src) snk;
-  name = λ snk. known_by (reads.told snk.src) (reads.ends snk.src);
+  name = λ snk. known_by (reads.name snk.src) (reads.told snk.src) (reads.ends snk.src);
   faults = λ snk. snk.failed;
   writing = λ snk. None;
 }

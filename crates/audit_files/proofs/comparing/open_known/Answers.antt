@@ -13,7 +13,7 @@ returns-in-Err-clause-refused g c =
     let e = c.in-Err.ensures in
     subst (λ (fault : Fault). IsKnownRefused c.args.line c.args.name.now old new fault) (sym c.source_fault.ensures)
     (known_refused c.args.line c.args.name.now old new c.in-Err.refused c.source.ensures.goes_on c.source.ensures.files
-    (λ is. e.absent (ap Err is)) (λ is. e.absent_name (ap Err is)) (λ is. e.failed (ap Err is)) c.source.ensures.write_faults c.source.ensures.failed_writes
+    (λ is. e.absent (ap Err is)) (λ is. e.absent_name (ap Err is)) (λ is. e.failed (ap Err is)) (λ is. e.failed_name (ap Err is)) (λ other. e.none_failed (λ same. other (cc))) c.source.ensures.write_faults c.source.ensures.failed_writes
     (λ other. e.absences_stay (λ same. other (cc))))
 
 pub returns-in-Err-clause-asked : goal.returns-in-Err-clause-asked

@@ -92,6 +92,7 @@ returns-in-Err-compare_planned-clause-unopened g c =
               goes_on = then old mid new refused.goes_on S.goes_on;
               files = S.files ∙ refused.files;
               written = S.writes ∙ refused.writes;
+              unread = λ n. S.unread ∙ refused.unread n;
               unabsent = λ none. S.absences ∙ refused.unabsent none;
               part = (A.met).part;
               place = A.place;

@@ -14,8 +14,8 @@ returns-in-Err-clause-refused g c =
     let e = c.in-Err.ensures in
     subst (λ (fault : Fault). IsSourceRefused c.args.line c.args.name.now old new fault) (sym c.source_fault.ensures)
     (source_refused c.args.line c.args.name.now old new c.in-Err.refused c.source.ensures.goes_on c.source.ensures.files
-    (λ is. e.absent (ap Err is)) (λ is. e.absent_name (ap Err is)) (λ is. e.failed (ap Err is))
-    (λ other. e.reads_stay (λ same. other (cc))) c.source.ensures.write_faults (λ other. e.absences_stay (λ same. other (cc))))
+    (λ is. e.absent (ap Err is)) (λ is. e.absent_name (ap Err is)) (λ is. e.failed (ap Err is)) (λ is. e.failed_name (ap Err is))
+    (λ other. e.reads_stay (λ same. other (cc))) (λ other. e.none_failed (λ same. other (cc))) c.source.ensures.write_faults (λ other. e.absences_stay (λ same. other (cc))))
 
 pub returns-in-Err-read_head-clause-refused : goal.returns-in-Err-read_head-clause-refused
 returns-in-Err-read_head-clause-refused g c =
@@ -24,7 +24,7 @@ returns-in-Err-read_head-clause-refused g c =
     let new = g.M.Media.outside c.close_source.new.self in
     let e = c.in-Err-read_head.ensures in
     subst (λ (fault : Fault). IsSourceRefused c.args.line c.args.name.now old new fault) (sym c.head_fault.ensures)
-    (head_refused c.args.line c.args.name.now old mid new c.in-Err-read_head.fault (g.M.Src.Source.size c.in-Ok.src) (g.M.Src.Source.told c.in-Ok.src) (g.M.Src.Source.ends c.in-Ok.src) (g.M.Src.Source.faults c.in-Ok.src) (g.M.Src.Source.faults c.read_head.new.src)
+    (head_refused c.args.line c.args.name.now (g.M.Src.Source.name c.read_head.new.src) old mid new c.in-Err-read_head.fault (g.M.Src.Source.size c.in-Ok.src) (g.M.Src.Source.told c.in-Ok.src) (g.M.Src.Source.ends c.in-Ok.src) (g.M.Src.Source.faults c.in-Ok.src) (g.M.Src.Source.faults c.read_head.new.src)
     (record {
       first = c.source.ensures.goes_on;
       last = c.close_source.ensures.goes_on;
@@ -35,6 +35,9 @@ returns-in-Err-read_head-clause-refused g c =
       last_writes = c.close_source.ensures.write_faults;
       first_absences = c.in-Ok.ensures.absences_stay (λ never. cc);
       last_absences = c.close_source.ensures.absences;
+      first_names = c.in-Ok.ensures.none_failed (λ never. cc);
+      last_names = c.close_source.ensures.failed_names;
+      named = λ tells. (c.read_head.ensures.keeps_source).name ∙ c.in-Ok.ensures.name tells;
       unfailed = c.in-Ok.ensures.unfailed;
       rose = λ is. e.read (ap Err is);
       stays = λ other. e.stays (λ same. other (cc));

@@ -5,7 +5,7 @@ use Rattle.rtp_parts.specs.Answers.{StoppedPacking}
 use Rattle.omx_types.specs.declared.fault.Fault.{Fault}
 use Rattle.omxrun.specs.Packets.{PacksTo}
 use Rattle.omxrun.specs.declared.done.Done.{Done}
-use Rattle.omxrun.proofs.Moves.{IsCounted, IsShut, IsShutAlone, RanAlone, pack-alone, shut-alone, shut-stand, pack-moved, pack-stopped, read-rose, write-rose, closed-of}
+use Rattle.omxrun.proofs.Moves.{IsCounted, IsShut, IsShutAlone, RanAlone, pack-alone, shut-alone, shut-stand, pack-moved, pack-stopped, read-failed, write-rose, closed-of}
 use Rattle.omxrun.proofs.Turns.{IsMoved, HasMoveReason, turned-outcome, unopened-outcome}
 use Rattle.omxrun.proofs.packets.pack_file.Goals as goal
 
@@ -25,7 +25,8 @@ returns-clause-outcome g c =
       ends_are = c.in_ok-opened.ensures.ends;
       there = c.in_ok-opened.ensures.there;
       sized = c.in_ok-opened.ensures.size;
-      read = read-rose old.read_faults mid.read_faults new.read_faults _ _ c.in_ok-opened.ensures.unread c.open_both.ensures.goes_on.read_faults c.close_both.ensures.reads;
+      read = read-failed c.args.input.now (g.M.Src.Source.name c.pack-packed.new.src) old mid new _ _ c.in_ok-opened.ensures.unread c.open_both.ensures.goes_on c.close_both.ensures.reads
+          (λ tells. c.pack-packed.ensures.keeps_source.name ∙ c.in_ok-opened.ensures.source_name tells) c.in_ok-opened.ensures.none_failed c.close_both.ensures.names;
       write = write-rose old.write_faults mid.write_faults new.write_faults _ _ c.in_ok-opened.ensures.unwritten c.open_both.ensures.goes_on.write_faults c.close_both.ensures.writes;
     } in
     let moved : IsTrue old.tells → (bytes : List ℕ) × (old.file c.args.input.now ≡ Some bytes) × IsMoved PacksTo bytes c.packed_outcome.result told = λ tells.

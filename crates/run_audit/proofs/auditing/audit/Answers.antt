@@ -18,6 +18,7 @@ use Rattle.run_audit.specs.declared.auditing.AuditFault.{AuditFault}
 use Rattle.run_audit.specs.declared.auditing.AuditFault.TheVariants as audits
 use Rattle.run_audit.specs.Auditing.{IsJudged, IsMetBy, IsNoPlayLog, IsNotRun, IsPlayRun, outcome_of}
 use Rattle.run_audit.specs.Faults.{AreGivenToEnd}
+use Rattle.run_audit.proofs.Causes as causes
 use Rattle.run_audit.proofs.FaultOfCall.{told_asked}
 use Rattle.run_audit.proofs.Judged as judged
 use Rattle.run_audit.proofs.Outcome as outcome
@@ -52,6 +53,7 @@ returns-in-Err-read_whole-clause-other g c =
     outcome.unread_log g.M.Src.Source c.args.script.now c.args.log.now (g.M.Media.outside c.args.media.now) (g.M.Media.outside c.open_compared.new.media) (g.M.Media.outside c.read_whole.new.media) (g.M.Media.outside c.close_compared.new.media)
     c.in-Ok.opened.plan c.in-Ok.opened.files.items c.in-Ok.opened.files.items c.in-Ok.ensures.opened R.goes_on R.files R.write_faults c.close_compared.ensures
     c.in-Err-read_whole.unread c.log_fault.result c.log_fault.ensures R.reason R.there (λ n. R.absences_stay (λ e. n (cc))) (λ n. R.asked (λ e. n (cc)))
+    (causes.none_failed g.M.Src.Source c.args.script.now (g.M.Media.outside c.args.media.now) (g.M.Media.outside c.open_compared.new.media) c.in-Ok.opened.plan c.in-Ok.opened.files.items c.in-Ok.ensures.opened)
 
 pub replay-replayed-requires-clause-files : goal.replay-replayed-requires-clause-files
 replay-replayed-requires-clause-files g c =
@@ -110,7 +112,11 @@ returns-then-read_faults-before-clause-other g c =
     let after = c.replay-replayed.new.files in
     let written = with_items_is c.in-Ok.opened.files after (c.replay-replayed.ensures.many ∙ c.as_mut_slice.ensures.len) in
     let C : AreClosed (files_seen (read_seen reads) after) late new (Ok tt) = subst (λ (fs : List (Option (PartFile g.row.M-Src.Denot (ComparingValue g.row.M-Src.Denot)))). AreClosed (files_seen (read_seen reads) fs) late new (Ok tt)) written c.close_compared-2.ensures in
-    outcome.risen reads c.args.script.now c.args.log.now old mid late new plan before after A R.goes_on R.files R.write_faults C (R.asked (λ e. cc)) (R.absences_stay (λ e. cc)) (R.read_stays (λ e. cc)) (λ t. outcome.is_there (R.bytes t)) (λ e. c.if-read_faults-before.true (c.read_faults.ensures ∙ (e ∙ sym c.read_faults-before.ensures)))
+    let value = c.as_mut_slice.ensures.value in
+    let many : length after ≡ length before = c.replay-replayed.ensures.many ∙ ap (λ (fs : List (Option (PartFile g.row.M-Src.Denot (ComparingValue g.row.M-Src.Denot)))). length fs) value in
+    let few : late.read_faults < 2 ^ 64 = omega (arith, c.read_faults-before.type_inv, c.read_faults-before.ensures) in
+    let back : FilesComeBack (play_sight reads) plan before after = subst (λ (fs : List (Option (PartFile g.row.M-Src.Denot (ComparingValue g.row.M-Src.Denot)))). FilesComeBack (play_sight reads) plan fs after) value c.replay-replayed.ensures.files in
+    outcome.risen reads c.args.script.now c.args.log.now old mid late new plan before after A R.goes_on R.files R.write_faults C (R.asked (λ e. cc)) (R.absences_stay (λ e. cc)) (R.read_stays (λ e. cc)) (R.none_failed (λ e. cc)) c.in-Ok-read_whole.text.items R.bytes R.given few many back (λ e. c.if-read_faults-before.true (c.read_faults.ensures ∙ (e ∙ sym c.read_faults-before.ensures)))
 
 pub returns-clause-files : goal.returns-clause-files
 returns-clause-files g c =
@@ -163,6 +169,7 @@ returns-clause-yes g c =
     let text = c.in-Ok-read_whole.text.items in
     let replayed = c.replay-replayed.result in
     let value = c.as_mut_slice.ensures.value in
+    let many : length after ≡ length before = c.replay-replayed.ensures.many ∙ ap (λ (fs : List (Option (PartFile g.row.M-Src.Denot (ComparingValue g.row.M-Src.Denot)))). length fs) value in
     let given = outcome.given_so reads c.args.script.now old mid plan before A q.0 c.args.log.now q.1 q.2 c.as_mut_slice.result.now value in
     let few : late.read_faults < 2 ^ 64 = omega (arith, c.read_faults-before.type_inv, c.read_faults-before.ensures) in
     let V : IsTrue old.tells → OnVerdict replayed (IsVerdictBy plan A.known sinks text) =
@@ -175,7 +182,7 @@ returns-clause-yes g c =
     let told : c.outcome-answer.result ≡ outcome_of plan.parts after replayed =
     c.outcome-answer.ensures.told ∙ (ap (λ (ps : List PartLine). outcome_of ps c.as_slice-2.result.now replayed) parts ∙ ap (λ (fs : List (Option (PartFile g.row.M-Src.Denot (ComparingValue g.row.M-Src.Denot)))). outcome_of plan.parts fs replayed) seen) in
     subst (λ (r : Result ℕ AuditFault). IfOk r (λ acts. IsJudged c.args.script.now c.args.log.now old new (Yes acts))) (sym told)
-    (outcome.judged_yes reads c.args.script.now c.args.log.now old mid late new plan before after A R.goes_on R.files R.write_faults C (R.asked (λ e. cc)) (R.absences_stay (λ e. cc)) (R.read_stays (λ e. cc)) (λ t. outcome.is_there (R.bytes t)) text R.bytes q.0 q.1 c.args.log.now q.2 few replayed V back failed met)
+    (outcome.judged_yes reads c.args.script.now c.args.log.now old mid late new plan before after A R.goes_on R.files R.write_faults C (R.asked (λ e. cc)) (R.absences_stay (λ e. cc)) (R.read_stays (λ e. cc)) (R.none_failed (λ e. cc)) text R.bytes R.given q.0 q.1 c.args.log.now q.2 few replayed V many back failed met)
 
 pub returns-clause-stand : goal.returns-clause-stand
 returns-clause-stand g c =
@@ -193,7 +200,7 @@ returns-clause-stand g c =
     let C : AreClosed (files_seen (read_seen reads) after) late new (Ok tt) = subst (λ (fs : List (Option (PartFile g.row.M-Src.Denot (ComparingValue g.row.M-Src.Denot)))). AreClosed (files_seen (read_seen reads) fs) late new (Ok tt)) written c.close_compared-2.ensures in
     elim c.else-is_ok.branch [
       | else-is_ok-via-then-is_ok+else-read_faults-before w ↦
-          outcome.on_ok c.outcome-answer.result (CountsStand old new) (outcome.counts reads c.args.script.now c.args.log.now old mid late new plan before after A R.goes_on R.files R.write_faults C (R.asked (λ e. cc)) (R.absences_stay (λ e. cc)) (R.read_stays (λ e. cc)) (λ t. outcome.is_there (R.bytes t)) (sym w.read_faults.ensures ∙ (w.if-read_faults-before.false ∙ c.read_faults-before.ensures)))
+          outcome.on_ok c.outcome-answer.result (CountsStand old new) (outcome.counts reads c.args.script.now c.args.log.now old mid late new plan before after A R.goes_on R.files R.write_faults C (R.asked (λ e. cc)) (R.absences_stay (λ e. cc)) (R.read_stays (λ e. cc)) (R.none_failed (λ e. cc)) c.in-Ok-read_whole.text.items R.bytes R.given (sym w.read_faults.ensures ∙ (w.if-read_faults-before.false ∙ c.read_faults-before.ensures)))
       | else-is_ok-via-else-is_ok w ↦ outcome.not_ok c.outcome-answer.result (CountsStand old new) (sym c.is_ok.ensures.value ∙ w.if-is_ok.false)
     ]
 
@@ -216,6 +223,7 @@ returns-clause-other g c =
     let text = c.in-Ok-read_whole.text.items in
     let replayed = c.replay-replayed.result in
     let value = c.as_mut_slice.ensures.value in
+    let many : length after ≡ length before = c.replay-replayed.ensures.many ∙ ap (λ (fs : List (Option (PartFile g.row.M-Src.Denot (ComparingValue g.row.M-Src.Denot)))). length fs) value in
     let given = outcome.given_so reads c.args.script.now old mid plan before A q.0 c.args.log.now q.1 q.2 c.as_mut_slice.result.now value in
     let few : late.read_faults < 2 ^ 64 = omega (arith, c.read_faults-before.type_inv, c.read_faults-before.ensures) in
     let V : IsTrue old.tells → OnVerdict replayed (IsVerdictBy plan A.known sinks text) =
@@ -228,7 +236,7 @@ returns-clause-other g c =
     let told : c.outcome-answer.result ≡ outcome_of plan.parts after replayed =
     c.outcome-answer.ensures.told ∙ (ap (λ (ps : List PartLine). outcome_of ps c.as_slice-2.result.now replayed) parts ∙ ap (λ (fs : List (Option (PartFile g.row.M-Src.Denot (ComparingValue g.row.M-Src.Denot)))). outcome_of plan.parts fs replayed) seen) in
     subst (λ (r : Result ℕ AuditFault). IfErr r (IsNotRun c.args.script.now c.args.log.now old new)) (sym told)
-    (outcome.other reads c.args.script.now c.args.log.now old mid late new plan before after A R.goes_on R.files R.write_faults C (R.asked (λ e. cc)) (R.absences_stay (λ e. cc)) (R.read_stays (λ e. cc)) (λ t. outcome.is_there (R.bytes t)) text R.bytes q.0 q.1 c.args.log.now q.2 few replayed V back failed met)
+    (outcome.other reads c.args.script.now c.args.log.now old mid late new plan before after A R.goes_on R.files R.write_faults C (R.asked (λ e. cc)) (R.absences_stay (λ e. cc)) (R.read_stays (λ e. cc)) (R.none_failed (λ e. cc)) text R.bytes R.given q.0 q.1 c.args.log.now q.2 few replayed V many back failed met)
 
 pub returns-clause-played : goal.returns-clause-played
 returns-clause-played g c =
@@ -249,6 +257,7 @@ returns-clause-played g c =
     let text = c.in-Ok-read_whole.text.items in
     let replayed = c.replay-replayed.result in
     let value = c.as_mut_slice.ensures.value in
+    let many : length after ≡ length before = c.replay-replayed.ensures.many ∙ ap (λ (fs : List (Option (PartFile g.row.M-Src.Denot (ComparingValue g.row.M-Src.Denot)))). length fs) value in
     let given = outcome.given_so reads c.args.script.now old mid plan before A q.0 c.args.log.now q.1 q.2 c.as_mut_slice.result.now value in
     let few : late.read_faults < 2 ^ 64 = omega (arith, c.read_faults-before.type_inv, c.read_faults-before.ensures) in
     let V : IsTrue old.tells → OnVerdict replayed (IsVerdictBy plan A.known sinks text) =
@@ -262,7 +271,7 @@ returns-clause-played g c =
     c.outcome-answer.ensures.told ∙ (ap (λ (ps : List PartLine). outcome_of ps c.as_slice-2.result.now replayed) parts ∙ ap (λ (fs : List (Option (PartFile g.row.M-Src.Denot (ComparingValue g.row.M-Src.Denot)))). outcome_of plan.parts fs replayed) seen) in
     subst (λ (r : Result ℕ AuditFault). IfOk r (IsPlayRun c.args.script.now c.args.log.now old)) (sym told)
     (outcome.is_run c.args.script.now c.args.log.now old (outcome_of plan.parts after replayed) c.law_of_audits.ensures.yes
-    (outcome.says_yes reads c.args.script.now c.args.log.now old mid late new plan before after A R.goes_on R.files R.write_faults C (R.asked (λ e. cc)) (R.absences_stay (λ e. cc)) (R.read_stays (λ e. cc)) (λ t. outcome.is_there (R.bytes t)) text R.bytes q.0 q.1 c.args.log.now q.2 few replayed V back failed met))
+    (outcome.says_yes reads c.args.script.now c.args.log.now old mid late new plan before after A R.goes_on R.files R.write_faults C (R.asked (λ e. cc)) (R.absences_stay (λ e. cc)) (R.read_stays (λ e. cc)) (R.none_failed (λ e. cc)) text R.bytes R.given q.0 q.1 c.args.log.now q.2 few replayed V many back failed met))
 
 pub returns-clause-plays : goal.returns-clause-plays
 returns-clause-plays g c =
@@ -283,6 +292,7 @@ returns-clause-plays g c =
     let text = c.in-Ok-read_whole.text.items in
     let replayed = c.replay-replayed.result in
     let value = c.as_mut_slice.ensures.value in
+    let many : length after ≡ length before = c.replay-replayed.ensures.many ∙ ap (λ (fs : List (Option (PartFile g.row.M-Src.Denot (ComparingValue g.row.M-Src.Denot)))). length fs) value in
     let given = outcome.given_so reads c.args.script.now old mid plan before A q.0 c.args.log.now q.1 q.2 c.as_mut_slice.result.now value in
     let few : late.read_faults < 2 ^ 64 = omega (arith, c.read_faults-before.type_inv, c.read_faults-before.ensures) in
     let V : IsTrue old.tells → OnVerdict replayed (IsVerdictBy plan A.known sinks text) =
@@ -295,7 +305,7 @@ returns-clause-plays g c =
     let told : c.outcome-answer.result ≡ outcome_of plan.parts after replayed =
     c.outcome-answer.ensures.told ∙ (ap (λ (ps : List PartLine). outcome_of ps c.as_slice-2.result.now replayed) parts ∙ ap (λ (fs : List (Option (PartFile g.row.M-Src.Denot (ComparingValue g.row.M-Src.Denot)))). outcome_of plan.parts fs replayed) seen) in
     subst (λ (r : Result ℕ AuditFault). IfErr r (IsNoPlayLog c.args.script.now c.args.log.now old)) (sym told)
-    (outcome.no_play reads c.args.script.now c.args.log.now old mid late new plan before after A R.goes_on R.files R.write_faults C (R.asked (λ e. cc)) (R.absences_stay (λ e. cc)) (R.read_stays (λ e. cc)) (λ t. outcome.is_there (R.bytes t)) text R.bytes q.0 q.1 c.args.log.now q.2 few replayed V back failed met c.law_of_verdicts.ensures.one
+    (outcome.no_play reads c.args.script.now c.args.log.now old mid late new plan before after A R.goes_on R.files R.write_faults C (R.asked (λ e. cc)) (R.absences_stay (λ e. cc)) (R.read_stays (λ e. cc)) (R.none_failed (λ e. cc)) text R.bytes R.given q.0 q.1 c.args.log.now q.2 few replayed V many back failed met c.law_of_verdicts.ensures.one
     (λ P. c.law_of_audits.ensures.plays P.name c.args.log.now P.text old P.plan P.files P.samples P.workers P.few P.is P.ready P.held P.short P.sinks P.log_is))
 
 -- ---- the fault that the files ask for
