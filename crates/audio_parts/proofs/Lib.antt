@@ -5,6 +5,7 @@ pub mod Inputs
 pub mod Joins
 pub mod Lawful
 pub mod Mixing
+pub mod Plain
 pub mod PortFrames
 pub mod Reading
 pub mod Readiness

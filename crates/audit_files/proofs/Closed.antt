@@ -4,7 +4,6 @@ use Rattle.std.specs.List.{slice_index_or, sum_by}
 use Rattle.std.proofs.lemmas.Bool.{cases_lt}
 use Rattle.std.proofs.lemmas.List.Sums.{sum_by-cons}
 use Rattle.std.proofs.lemmas.Option.{slice_get_within}
-use Rattle.omx_types.specs.declared.format.Format.{Format}
 use Rattle.outside_io.specs.declared.source.Source.{Ghosts as SourceGhosts}
 use Rattle.outside_io.specs.Files.{Outside}
 use Rattle.wav_form.specs.declared.heads.WavHead.{WavHead}
@@ -16,8 +15,8 @@ use Rattle.script_lang.specs.declared.play_line.PartLine.{PartLine}
 use Rattle.play_build_laws.proofs.Places.{get_there}
 use Rattle.play_forms.specs.Parts.{source_number}
 use Rattle.play_result_laws.specs.Files.{written_by}
-use Rattle.play_files.specs.Closing.{AreClosed, IsSinkAt, failed_reads}
-use Rattle.play_files.specs.Opening.{AreRead, HasAt, IsReadFor, IsStill}
+use Rattle.play_files.specs.Closing.{AreClosed, failed_reads}
+use Rattle.play_files.specs.Opening.{AreRead, IsReadFor, IsStill}
 use Rattle.play_files.specs.Seen.{FileSeen, SinkSeen, Writes, file_seen, files_seen}
 use Rattle.play_files.proofs.Closings.{unread_names}
 use Rattle.play_files.proofs.Stopped.{unseen_at}

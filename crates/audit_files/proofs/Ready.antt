@@ -1,5 +1,5 @@
 -- A plan is ready whose sources are open and whose sinks are compared.
-use Rattle.std.proofs.Common.{◌≡◌, ℕ, ◌<◌, ◌≤◌, Bool, true, false, List, [], ◌++◌, length, drop, take, slice_get, Option, Some, None, option_map, IsSome, IsTrue, inl, inr, refl, sym, ◌∙◌, ap, subst, arith}
+use Rattle.std.proofs.Common.{◌≡◌, ℕ, false, List, [], ◌++◌, length, slice_get, Option, Some, None, option_map, IsSome, IsTrue, refl, ◌∙◌, ap, subst, arith}
 use Rattle.std.specs.List.{count_by, slice_index_or}
 use Rattle.std.specs.Option.{option_and_then}
 use Rattle.std.proofs.lemmas.List.{take_all}
@@ -15,18 +15,16 @@ use Rattle.script_lang.specs.declared.play_line.PartLine.{PartLine}
 use Rattle.script_lang.specs.declared.script.Script.{Script}
 use Rattle.play_forms.specs.Parts.{is_source_part, source_number}
 use Rattle.play_forms.specs.Plans.{IsPlanOfScript, PlanValue}
-use Rattle.play_plan_laws.specs.Assemblies.{IsReady, PlayFiles}
 use Rattle.play_plan_laws.specs.Limits.{IsScripted}
-use Rattle.play_result_laws.specs.Files.{AreFiles, IsReadAs, IsReader, read_by, written_by}
+use Rattle.play_result_laws.specs.Files.{AreFiles, read_by, written_by}
 use Rattle.play_files.specs.Asked.{read_names, written_names}
 use Rattle.play_files.specs.Opening.{AreOpen, AreRead, HasAt, IsOpenFor, IsReadBy, IsReadFor, IsSourceOf, IsWrittenBy}
 use Rattle.play_files.specs.Seen.{FileSeen, Reads, SourceSeen, Writes, file_seen, offer}
 use Rattle.play_files.specs.Stopping.{HasOpenedAll}
 use Rattle.play_files.specs.Whole.{known_by, offer_at, play_files, there_by}
-use Rattle.play_files.proofs.Closings.{same}
 use Rattle.play_files.proofs.Ready.{are_offered, is_ready, read_reads, sources_told}
 use Rattle.compared_files.specs.Comparing.{ComparingValue, told_by}
-use Rattle.audit_files.specs.Compared.{AreCompared, HaveCompared, IsComparedBy, IsFileOf, compared, untouched}
+use Rattle.audit_files.specs.Compared.{AreCompared, HaveCompared, IsComparedBy, compared, untouched}
 use Rattle.audit_files.specs.Left.{HasComparedAll}
 
 -- the media, if it told nothing

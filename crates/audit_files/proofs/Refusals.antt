@@ -1,5 +1,5 @@
 -- A file that wasn't opened to be compared.
-use Rattle.std.proofs.Common.{◌≡◌, ◌≢◌, ℕ, List, [], ◌∷◌, Option, Some, None, IsSome, IsTrue, refl, sym, ◌∙◌, ap, subst, arith}
+use Rattle.std.proofs.Common.{◌≡◌, ◌≢◌, ℕ, List, [], ◌∷◌, Option, Some, None, IsSome, refl, sym, ◌∙◌, ap, subst, arith}
 use Rattle.std.specs.List.{slice_index_or}
 use Rattle.omx_types.specs.declared.fault.Fault.{Fault}
 use Rattle.omx_types.specs.declared.fault.Fault.TheVariants as Faults

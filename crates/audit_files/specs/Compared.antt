@@ -5,7 +5,6 @@ use Rattle.outside_io.specs.declared.sink.Sink.{Ghosts as SinkGhosts}
 use Rattle.outside_io.specs.declared.source.Source.{Ghosts as SourceGhosts}
 use Rattle.outside_io.specs.Files.{Outside}
 use Rattle.outside_io.specs.Moves.{WhereTold}
-use Rattle.wav_form.specs.declared.heads.WavHead.{WavHead}
 use Rattle.audio_parts.specs.declared.part_file.PartFile.{PartFile}
 use Rattle.audio_parts.specs.declared.part_file.PartFile.TheVariants as files
 use Rattle.script_lang.specs.declared.play_line.PartLine.{PartLine}

@@ -11,13 +11,12 @@ use Rattle.audio_parts.specs.declared.part_file.PartFile.{PartFile}
 use Rattle.script_lang.specs.declared.play_line.PartLine.{PartLine}
 use Rattle.script_lang.specs.declared.script.Script.{Script}
 use Rattle.play_forms.specs.Plans.{IsFit, IsFitted, IsPlanOfScript, IsValid, PlanValue}
-use Rattle.play_plan_laws.specs.Assemblies.{PlayFiles}
 use Rattle.play_result_laws.specs.Files.{IsWriter, written_by}
 use Rattle.play_files.specs.Asked.{HasAskedFor, read_names, written_names}
 use Rattle.play_files.specs.Left.{HaveHeads, IsUnfit, IsUnplanned, IsUnread}
 use Rattle.play_files.specs.Opening.{AreRead, IsStill}
-use Rattle.play_files.specs.Seen.{FileSeen, file_seen}
-use Rattle.play_files.specs.Stopping.{AtFit, AtSource}
+use Rattle.play_files.specs.Seen.{file_seen}
+use Rattle.play_files.specs.Stopping.{HasNotFit}
 use Rattle.compared_files.specs.Comparing.{ComparingValue}
 use Rattle.audit_files.specs.Compared.{HaveCompared, compared}
 
@@ -70,7 +69,7 @@ module _ {S : Type 0} (g : SourceGhosts S) where
 
   abbrev pub HasStopped : Outside → Outside → PlanValue → PlanValue → List WavHead → List (Option (PartFile S (ComparingValue S))) → Fault → Type 0
   HasStopped old new planned plan heads entries fault =
-      AtSource (file_seen g (compared g)) old new planned heads entries fault ⊎ AtFit (file_seen g (compared g)) old new planned plan heads entries fault ⊎ AtKnown old new planned plan heads entries fault
+      HasNotFit (file_seen g (compared g)) old new planned plan heads entries fault ⊎ AtKnown old new planned plan heads entries fault
 
 -- ---- what a caller is told
 

@@ -1,33 +1,20 @@
 //! The files that a play wrote are opened, in the order of the script, to be compared.
 
-ghost use Rattle.std.specs.Prelude.{◌≡◌, ◌≢◌, ℕ, ◌+◌, ◌<◌, ◌≤◌, length, take, slice_get, slice_set, Err, IfErr, IfNone, IfOk, IfSome, OnOk, Some, None};
+ghost use Rattle.std.specs.Prelude.{◌≡◌, ◌≢◌, ℕ, ◌+◌, length, take, Err, IfErr, IfOk, OnOk};
 ghost use Rattle.outside_io.specs.Files.{with_name};
-ghost use Rattle.play_result_laws.specs.Files.{written_by};
 ghost use Rattle.play_files.specs.Asked.{HasAskedFor, written_names};
 ghost use Rattle.play_files.specs.Opening.{AreSinksFree, IsStill};
 ghost use Rattle.play_files.specs.Seen.{source_seen};
 ghost use Rattle.audit_files.specs.Compared.{HaveCompared, IsFileOf};
 ghost use Rattle.audit_files.specs.Left.{IsKnownMet, IsKnownRefused};
 
-use crate::faults::source_fault;
 use audio_parts::PartFile;
 use compared_files::Comparing;
 use omx_types::Fault;
 use outside_io::Media;
-use script_lang::{PartForm, PartLine};
+use play_files::{put_file, source_fault, written_name};
+use script_lang::PartLine;
 use std::alloc::Global;
-use std::mem::replace;
-
-/// The name of the file that the component writes.
-fn written_name(form: &PartForm) -> Option<&str>
-    ensures some { IfSome result (λ name. written_by form.now ≡ Some name.now) }
-    ensures none { IfNone result (written_by form.now ≡ None) }
-{
-    match form {
-        PartForm::Sink(file) => Some(file.as_str()),
-        _ => None,
-    }
-}
 
 /// Opens the file that is written in that line.
 fn open_known<M: Media>(
@@ -44,18 +31,6 @@ fn open_known<M: Media>(
     match media.source(alloc, name) {
         Ok(src) => Ok(src),
         Err(refused) => Err(source_fault(line, refused)),
-    }
-}
-
-/// Puts a file at a place that has none.
-fn put<F>(files: &mut [Option<F>], place: usize, file: F)
-    requires there { place < length files.old }
-    requires free { slice_get files.old place ≡ Some None }
-    ensures { files.new ≡ slice_set files.old place (Some file) }
-{
-    match replace(&mut files[place], Some(file)) {
-        None => {}
-        Some(_) => unreachable!(),
     }
 }
 
@@ -80,17 +55,15 @@ pub(crate) fn compare_all<M: Media>(
     for place in 0..parts.len() {
         let part = &parts[place];
         if let Some(name) = written_name(&part.form) {
-            match open_known(alloc, media, name, part.line) {
-                Ok(src) => put(
-                    files,
-                    place,
-                    PartFile::To {
-                        snk: Comparing::new(alloc, src),
-                        frames: planned[place],
-                    },
-                ),
-                Err(fault) => return Err(fault),
-            }
+            let src = open_known(alloc, media, name, part.line)?;
+            put_file(
+                files,
+                place,
+                PartFile::To {
+                    snk: Comparing::new(alloc, src),
+                    frames: planned[place],
+                },
+            );
         }
     }
     Ok(())

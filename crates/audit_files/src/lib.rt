@@ -4,9 +4,7 @@
 
 mod closing;
 mod comparing;
-mod faults;
 mod opening;
-mod sources;
 
 pub use closing::close_compared;
 pub use opening::open_compared;

@@ -8,13 +8,11 @@ ghost use Rattle.audit_files.specs.Left.{HasComparedAll, HasStopped, IsUncompare
 
 use crate::closing::close_compared;
 use crate::comparing::compare_all;
-use crate::faults::plan_fault;
-use crate::sources::open_sources;
 use audio_parts::PartFile;
 use compared_files::Comparing;
 use omx_types::Fault;
 use outside_io::Media;
-use play_files::Opened;
+use play_files::{Opened, fit_to_sources};
 use script_lang::Script;
 use std::alloc::Global;
 use stream_plan::Plan;
@@ -38,14 +36,7 @@ fn compare_planned<M: Media>(
     ensures whole { OnOk result (HasComparedAll M.Src.Source (M.outside media.old) (M.outside media.new) plan.old plan.new heads.new.items files.new.items) }
     ensures stopped { IfErr result (HasStopped M.Src.Source (M.outside media.old) (M.outside media.new) plan.old plan.new heads.new.items files.new.items) }
 {
-    match open_sources(alloc, media, plan.parts(), heads, files) {
-        Ok(()) => {}
-        Err(fault) => return Err(fault),
-    }
-    match plan.fit(heads.as_slice()) {
-        Ok(()) => {}
-        Err(fault) => return Err(plan_fault(fault)),
-    }
+    fit_to_sources(alloc, media, plan, heads, files)?;
     compare_all(
         alloc,
         media,
@@ -66,10 +57,7 @@ pub fn open_compared<M: Media>(
     ensures opened { IfOk result (λ opened. AreCompared M.Src.Source script.now (M.outside media.old) (M.outside media.new) opened.plan opened.files.items) }
     ensures unopened { IfErr result (IsUncompared script.now (M.outside media.old) (M.outside media.new)) }
 {
-    let mut plan = match Plan::build(alloc, script) {
-        Ok(plan) => plan,
-        Err(fault) => return Err(plan_fault(fault)),
-    };
+    let mut plan = Plan::build(alloc, script)?;
     let Ok(mut heads) = Vec::with_capacity(alloc, plan.parts().len()) else {
         return Err(Fault::OutOfMemory);
     };

@@ -33,7 +33,7 @@ use Rattle.play_history_laws.specs.Requests.{AreRequested, requests}
 use Rattle.play_history_laws.proofs.Askings.{link_is, many}
 use Rattle.play_history_laws.proofs.RequestedEnds.{all_rest, played_out}
 use Rattle.play_history_laws.proofs.Files.{requested_whole}
-use Rattle.play_history_laws.proofs.ListFronts.{times}
+use Rattle.play_result_laws.proofs.ListFronts.{times}
 use Rattle.play_history_laws.proofs.Ordered.{history_ordered}
 use Rattle.play_history_laws.proofs.Places as places
 use Rattle.audit_lines.specs.Lines.{IsOfPlay, pieces_of, texts_from}
@@ -153,7 +153,7 @@ module _ (plan : PlanValue) (files : PlayFiles) (handles : List Handle) (w : Wor
   no_handles [] e = refl
   no_handles (h ∷ hs) e = let m = many plan files handles w steps k v G in let z = ap (λ (t : List Handle). length t) e in absurd (omega (arith, m, z, none))
 
-  nothing_left : (links : List ℕ) (left : List (Act × Reply)) → AreRequested (tuned plan files) handles links left steps → left ≡ []
+  pub nothing_left : (links : List ℕ) (left : List (Act × Reply)) → AreRequested (tuned plan files) handles links left steps → left ≡ []
   nothing_left links left R =
       let e = no_links links left R links refl in
       let h = no_handles handles refl in

@@ -29,7 +29,7 @@ use Rattle.play_history_laws.specs.Askings.{IsPlanHistory, asking_of, read_of}
 use Rattle.play_history_laws.specs.Requests.{AreRequested, is_request, requests}
 use Rattle.play_history_laws.proofs.Askings.{many}
 use Rattle.play_history_laws.proofs.Conducted.{conducted_requested}
-use Rattle.play_history_laws.proofs.ListFronts.{kept_at, kept_not}
+use Rattle.play_result_laws.proofs.ListFronts.{kept_at, kept_not}
 use Rattle.play_history_laws.proofs.Places as places
 use Rattle.play_history_laws.proofs.Requested.{history_on, unrequested}
 use Rattle.play_history_laws.proofs.RequestWalk.{asked_next}

@@ -1,7 +1,9 @@
 //! A text is cut into lines. Unlike a script's line, a log's keeps a carriage return, with which it isn't canonical.
 
-ghost use Rattle.std.specs.Prelude.{◌≡◌, ◌∷◌, ◌<◌, ◌≤◌, ◌+◌, ℕ, [], length, slice_index, IfNone, IfSome};
+ghost use Rattle.std.specs.Prelude.{◌≡◌, ◌∷◌, ◌<◌, [], length, IfNone, IfSome};
 ghost use Rattle.audit_lines.specs.Lines.{pieces_of};
+
+use line_text::feed_in;
 
 /// The first line of a text, without its line feed, which the last one may lack; and what follows.
 pub fn next_line(text: &[u8]) -> Option<(&[u8], &[u8])>
@@ -19,18 +21,4 @@ pub fn next_line(text: &[u8]) -> Option<(&[u8], &[u8])>
     }
     let (_, rest) = text.split_at(feed + 1);
     Some((line, rest))
-}
-
-/// The place of the first line feed, or the length.
-fn feed_in(text: &[u8]) -> usize
-    ensures within { result ≤ length text.now }
-    ensures before { (k : ℕ) → k < result → slice_index text.now k ≡ 10 → ⊥ }
-    ensures feed { result < length text.now → slice_index text.now result ≡ 10 }
-{
-    for (place, byte) in text.iter().enumerate() {
-        if *byte == b'\n' {
-            return place;
-        }
-    }
-    text.len()
 }

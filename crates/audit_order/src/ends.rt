@@ -1,8 +1,8 @@
 //! The link of a late source, as lines name it.
 
-ghost use Rattle.std.specs.Prelude.{◌≡◌};
+ghost use Rattle.std.specs.Prelude.{◌≡◌, slice_get};
 ghost use Rattle.std.specs.List.{position_or_len};
-ghost use Rattle.audit_order.specs.Ends.{gives, link_of, position_from};
+ghost use Rattle.audit_order.specs.Ends.{gives, link_at, link_of, position_from};
 
 use act_text::PortName;
 use omx_types::Format;
@@ -39,35 +39,43 @@ fn link_from(joints: &[Joint], source: u32) -> usize
     joints.len()
 }
 
+impl LinkEnds {
+    /// The ends of the link of that number, from 0.
+    pub fn at(plan: &Plan, link: usize) -> Option<LinkEnds>
+        ensures { result ≡ link_at plan.now.parts (slice_get plan.now.joints link) (slice_get plan.now.flows link) }
+    {
+        let Some(joint) = plan.joints().get(link) else {
+            return None;
+        };
+        let Some(flow) = plan.flows().get(link) else {
+            return None;
+        };
+        let Some(giver) = plan.parts().get(joint.giver as usize) else {
+            return None;
+        };
+        let Some(taker) = plan.parts().get(joint.taker as usize) else {
+            return None;
+        };
+        Some(LinkEnds {
+            output: PortName {
+                component: giver.name,
+                index: joint.output,
+            },
+            input: PortName {
+                component: taker.name,
+                index: joint.input,
+            },
+            taker: joint.taker,
+            format: flow.format,
+            count: joint.count,
+            size: joint.size,
+        })
+    }
+}
+
 /// The link that the component at the place gives into.
 pub(crate) fn link_of(plan: &Plan, source: u32) -> Option<LinkEnds>
     ensures { result ≡ link_of plan.now source }
 {
-    let link = position_from(plan, source);
-    let Some(joint) = plan.joints().get(link) else {
-        return None;
-    };
-    let Some(flow) = plan.flows().get(link) else {
-        return None;
-    };
-    let Some(giver) = plan.parts().get(joint.giver as usize) else {
-        return None;
-    };
-    let Some(taker) = plan.parts().get(joint.taker as usize) else {
-        return None;
-    };
-    Some(LinkEnds {
-        output: PortName {
-            component: giver.name,
-            index: joint.output,
-        },
-        input: PortName {
-            component: taker.name,
-            index: joint.input,
-        },
-        taker: joint.taker,
-        format: flow.format,
-        count: joint.count,
-        size: joint.size,
-    })
+    LinkEnds::at(plan, position_from(plan, source))
 }

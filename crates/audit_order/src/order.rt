@@ -6,10 +6,11 @@ ghost use Rattle.audit_order.specs.Steps.{Admits, AreLatesChanged, BeginsChange,
 use crate::ends::link_of;
 use crate::lines::{is_change_act, is_send};
 use crate::steps::{
-    all_told, are_sinks_over, both_disabled, has_settings, is_changing, is_late_at, is_over,
-    last_told, state_sent,
+    are_sinks_over, both_disabled, has_settings, is_changing, is_late_at, is_over, last_told,
+    state_sent,
 };
 use act_text::TextAct;
+use conductor::all_told;
 use il_machine::Progress;
 use omx_types::State;
 use std::marker::Model;

@@ -5,53 +5,17 @@ ghost use Rattle.std.specs.Option.{option_copied};
 ghost use Rattle.part_forms.specs.Kinds.{is_late};
 ghost use Rattle.il_machine.specs.Kinds.{is_sink};
 ghost use Rattle.play_forms.specs.Parts.{passes_at};
-ghost use Rattle.conductor.specs.Hearing.{is_disable, is_enable, tells_disable, tells_enable};
-ghost use Rattle.conductor.specs.Phases.{all_told, has_settings, is_at};
+ghost use Rattle.conductor.specs.Phases.{has_settings};
 ghost use Rattle.audit_order.specs.Asked.{state_sent};
 ghost use Rattle.audit_order.specs.Steps.{AreSinksOver, IsOverAt, both_disabled, both_enabled, has_eos, is_changing, is_over, last_told};
 
 use crate::ends::{LinkEnds, link_of};
 use crate::order::Change;
+use conductor::{all_told, tells_disable, tells_enable};
 use il_machine::Progress;
-use omx_types::{Completion, State};
+use omx_types::State;
 use script_lang::{PartForm, PartLine};
 use stream_plan::Plan;
-
-fn is_disable(port: u32, done: Option<Completion>) -> bool
-    ensures { result ≡ is_disable port done }
-{
-    match done {
-        Some(Completion::Disable(other)) => other == port,
-        _ => false,
-    }
-}
-
-fn is_enable(port: u32, done: Option<Completion>) -> bool
-    ensures { result ≡ is_enable port done }
-{
-    match done {
-        Some(Completion::Enable(other)) => other == port,
-        _ => false,
-    }
-}
-
-fn tells_disable(port: u32, progress: Option<&Progress>) -> bool
-    ensures { result ≡ tells_disable port (option_copied progress.entry) }
-{
-    match progress {
-        Some(progress) => is_disable(port, progress.port),
-        None => false,
-    }
-}
-
-fn tells_enable(port: u32, progress: Option<&Progress>) -> bool
-    ensures { result ≡ tells_enable port (option_copied progress.entry) }
-{
-    match progress {
-        Some(progress) => is_enable(port, progress.port),
-        None => false,
-    }
-}
 
 pub(crate) fn both_disabled(ends: &LinkEnds, told: &[Progress], source: u32) -> bool
     ensures { result ≡ both_disabled ends.now told.now source }
@@ -85,22 +49,6 @@ fn has_eos(told: &[Progress], place: u32) -> bool
         Some(progress) => progress.eos,
         None => false,
     }
-}
-
-fn is_at(state: State, reached: Option<State>) -> bool
-    ensures { result ≡ is_at state reached }
-{
-    match reached {
-        Some(other) => other.number() == state.number(),
-        None => false,
-    }
-}
-
-/// Whether the last state that each component has told is this one.
-pub(crate) fn all_told(state: State, told: &[Progress]) -> bool
-    ensures { result ≡ all_told state told.now }
-{
-    told.iter().all(|progress| is_at(state, progress.state))
 }
 
 /// The state that is sent as the one of that number, from 1.

@@ -31,7 +31,7 @@ use Rattle.board.specs.Asking.{ArePlain, bare, bare_log}
 use Rattle.board.specs.Histories.{MayAsk}
 use Rattle.board.specs.Notes.{GiveNoHeaders, HasNoClientHeaders}
 use Rattle.board.proofs.Bare.{bare_snoc}
-use Rattle.board.proofs.Clientless.{AsksNone as AsksNoHeader, HasNoClients, clientless_still, gives_none}
+use Rattle.history_laws.proofs.Clientless.{AsksNone as AsksNoHeader, HasNoClients, clientless_still, gives_none}
 
 -- ---- an act
 

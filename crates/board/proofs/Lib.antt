@@ -18,5 +18,4 @@ pub mod Chaining
 pub mod Failing
 pub mod Faulting
 pub mod There
-pub mod Clientless
 pub mod Eventing

@@ -68,10 +68,7 @@ fn seats<S: Source, K: Sink, C: Client>(
     let mut handles = Vec::new(alloc);
     let mut states = Vec::new(alloc);
     for place in 0..32u32 {
-        match add_seat(&mut handles, &mut states, seat(graph, place)) {
-            Ok(()) => {}
-            Err(e) => return Err(e),
-        }
+        add_seat(&mut handles, &mut states, seat(graph, place))?;
     }
     Ok((handles, states))
 }

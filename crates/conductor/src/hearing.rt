@@ -26,7 +26,8 @@ fn is_enable(port: u32, done: Option<Completion>) -> bool
     }
 }
 
-fn tells_disable(port: u32, progress: Option<&Progress>) -> bool
+/// Has the component told that the port is disabled?
+pub fn tells_disable(port: u32, progress: Option<&Progress>) -> bool
     ensures { result ≡ tells_disable port (option_copied progress.entry) }
 {
     match progress {
@@ -35,7 +36,8 @@ fn tells_disable(port: u32, progress: Option<&Progress>) -> bool
     }
 }
 
-fn tells_enable(port: u32, progress: Option<&Progress>) -> bool
+/// Has the component told that the port is enabled?
+pub fn tells_enable(port: u32, progress: Option<&Progress>) -> bool
     ensures { result ≡ tells_enable port (option_copied progress.entry) }
 {
     match progress {

@@ -125,7 +125,7 @@ module _ {C : Type 0} (progress : C → Progress) where
       ap (λ (x : Seen). x.count (is_for key)) (h ∙ sym hs) ∙ z
 
   -- another stock with the same value
-  kept_restocked : (es : List (Entry C)) (s t : StockKept) (units waits numbered : ℕ) → stocked t ≡ stocked s → kept progress (record { entries = es; stock = t; units = units; waits = waits; numbered = numbered }) ≡ kept progress (record { entries = es; stock = s; units = units; waits = waits; numbered = numbered })
+  pub kept_restocked : (es : List (Entry C)) (s t : StockKept) (units waits numbered : ℕ) → stocked t ≡ stocked s → kept progress (record { entries = es; stock = t; units = units; waits = waits; numbered = numbered }) ≡ kept progress (record { entries = es; stock = s; units = units; waits = waits; numbered = numbered })
   kept_restocked es s t units waits numbered q =
       ap (λ (x : Stocked). record {
         looks = record { key = x.key; components = components_of es; headers = x.headers; units = units; waits = waits; numbered = numbered; made = x.next };

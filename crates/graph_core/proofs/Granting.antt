@@ -1,5 +1,5 @@
 -- Why no units are granted or taken, and what is true of a graph once they are.
-use Rattle.std.proofs.Common.{◌≡◌, ℕ, ◌+◌, ◌<◌, ◌≤◌, true, false, nat_lt, nat_le, [], ◌∷◌, slice_get, MatchOption, Option, Some, None, refl, sym, ◌∙◌, ap, subst, ltb-false, arith}
+use Rattle.std.proofs.Common.{◌≡◌, ℕ, ◌+◌, ◌<◌, ◌≤◌, true, false, nat_lt, nat_le, [], ◌∷◌, slice_get, MatchOption, Option, option_and_then, Some, None, refl, sym, ◌∙◌, ap, subst, ltb-false, arith}
 use Rattle.il_machine.specs.declared.answer.Progress.{Progress}
 use Rattle.il_machine.specs.declared.answer.Why.{Why}
 use Rattle.il_machine.specs.declared.answer.Why.TheVariants as why
@@ -79,6 +79,21 @@ may_lose l c h e =
     let a = passed (nat_le (need_of d.0) (coming_units l)) _ _ (rw (d.1, d.2) at h) in
     let b = passed (nat_lt (room c) 2) _ _ a.1 in
     record { victim = victim_is d.0 c (best_among (is_weaker d.0) gives_first l.components c d.2).passes; room = b.0 }
+
+-- ---- where there is nobody, the call is idle
+
+pub no_grant : (l : Look) → grant_idle l ≡ None → None ≡ first_waiter l.components → ⊥
+no_grant l h e = let z = rw (sym e) at h in absurd cc
+
+none_weakest : (l : Look) (o : Option Component) → first_waiter l.components ≡ o → preempt_idle l ≡ None → None ≡ option_and_then (λ c. weakest c l.components) o → ⊥
+none_weakest l None w h e = let z = rw w at h in absurd cc
+none_weakest l (Some c) w h e =
+    let a = passed (nat_le (need_of c) (coming_units l)) _ _ (rw (w, sym e) at h) in
+    let z = a.1 in
+    absurd cc
+
+pub no_preempt : (l : Look) → preempt_idle l ≡ None → None ≡ victim l.components → ⊥
+no_preempt l h e = none_weakest l (first_waiter l.components) refl h e
 
 pub part_granted : (c : Component) → KeepsPart c (granted_units c)
 part_granted c = record { number = refl; kind = refl; file = refl; failed = refl; work = refl }

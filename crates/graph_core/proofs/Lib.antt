@@ -49,3 +49,6 @@ pub mod RowsPut
 pub mod BookKept
 pub mod Entering
 pub mod Gathered
+pub mod Found
+pub mod Cores
+pub mod TunnelEnds

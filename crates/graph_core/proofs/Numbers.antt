@@ -1,5 +1,5 @@
 -- Numbers that rise by place differ, so a component that has the number is the one of the number.
-use Rattle.std.proofs.Common.{◌≡◌, ℕ, suc, ◌<◌, Bool, true, false, nat_eq, List, [], ◌∷◌, length, position, slice_get, Option, Some, None, MatchOption, refl, sym, ◌∙◌, ap, arith, subst}
+use Rattle.std.proofs.Common.{◌≡◌, ℕ, suc, ◌<◌, Bool, true, false, nat_eq, List, [], ◌∷◌, length, position, slice_get, Option, Some, None, MatchOption, refl, ◌∙◌, ap, arith, subst}
 use Rattle.std.proofs.lemmas.Bool.Decides.{nat_tests}
 use Rattle.std.proofs.lemmas.Option.{slice_get_within}
 use Rattle.il_machine.specs.declared.answer.Progress.{Progress}

@@ -5,9 +5,8 @@ use Rattle.il_machine.specs.declared.port.PortKey.{PortKey}
 use Rattle.il_machine.specs.declared.port.Link.{Link}
 use Rattle.il_machine.specs.declared.port.Port.{Port}
 use Rattle.il_machine.specs.declared.header.HeaderState.{HeaderState}
-use Rattle.il_machine.specs.declared.header.Queue.{Queue}
 use Rattle.il_machine.specs.World.{Component, HeaderRecord, World, port_of}
-use Rattle.il_machine.specs.Headers.{Seen, count_headers, is_for, at_spot, put_at, spot_queue, empty_load}
+use Rattle.il_machine.specs.Headers.{Seen, count_headers, is_for, at_spot, put_at, empty_load}
 use Rattle.il_machine.specs.Look.{Look, look}
 use Rattle.il_machine.specs.Ports.{accepting, is_supplier, is_input_port}
 use Rattle.il_machine.specs.Buffers.{has_no_block, has_no_number}

@@ -61,10 +61,7 @@ fn make<C>(
         slot: 0,
         generation: number,
     };
-    let component = match Component::fresh(alloc, h, kind, client) {
-        Ok(component) => component,
-        Err(client) => return Err(client),
-    };
+    let component = Component::fresh(alloc, h, kind, client)?;
     let (inputs, outputs) = sides(kind);
     match stock.add_ports(alloc, number, inputs, outputs) {
         Ok(()) => Ok(component),
@@ -119,10 +116,7 @@ impl<C: Client> Core<C> {
         ensures entries_unchanged { OnErr result (self.new.entries ≡ self.old.entries) }
     {
         let number = self.registry.given();
-        let mut component = match make(&mut self.stock, alloc, number, kind, client) {
-            Ok(component) => component,
-            Err(client) => return Err(client),
-        };
+        let mut component = make(&mut self.stock, alloc, number, kind, client)?;
         match self.registry.insert(self.components.len()) {
             Ok(h) => {
                 component.set_handle(h);

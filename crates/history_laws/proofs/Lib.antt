@@ -51,3 +51,5 @@ pub mod Remaining
 pub mod Seats
 pub mod Delivering
 pub mod Objects
+pub mod Clientless
+pub mod Numbered

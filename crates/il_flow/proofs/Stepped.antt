@@ -34,7 +34,7 @@ use Rattle.il_flow.proofs.Coming.{came}
 use Rattle.il_flow.proofs.Counting.{are_there, source_ports}
 use Rattle.il_flow.proofs.Laying.{all_at}
 use Rattle.il_flow.proofs.Least.{frames_are, over_is}
-use Rattle.il_flow.proofs.Plain.{all_stepped, plain_same}
+use Rattle.il_flow.proofs.Plain.{all_stepped, lawful_same}
 use Rattle.il_flow.proofs.Told.{IsGiven, append_twice, given, still_writing, sub_twice, text_is}
 
 -- what is known of a part before its step
@@ -104,7 +104,7 @@ headers_are t sh l s p p' left n over text piece carries before after is w file 
     ap (carried_from 0) w.headers
     ∙ all_stepped t sh n (with_file w.piece (came_in t sh n before)) (incoming t n (carried_from 0 before) piece) over 0 before
     (λ output. ap (λ x. x.plain (with_file w.piece (came_in t sh n before)) output) is.shape
-    ∙ plain_same t (with_file w.piece (came_in t sh n before)) (incoming t n (carried_from 0 before) piece) output is.lawful (λ input b. came t sh l n before input is.laid b) file)
+    ∙ lawful_same t (with_file w.piece (came_in t sh n before)) (incoming t n (carried_from 0 before) piece) output is.lawful (λ input b. came t sh l n before input is.laid b) file)
 
 text_of_step : (t : Terms) (sh : Shape) (l : Layout) (s : Stream) (p : PartSeen) (left : Option ℕ) (n : ℕ) (before : List (Option BufferHeader)) → IsSet t sh l s p left
     → writes_of (begun n p.writing) ((came_in t sh n before).input 0) ≡ text_of t s n (carried_from 0 before)

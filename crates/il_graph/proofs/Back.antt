@@ -1,8 +1,8 @@
 -- A component's work comes back to a graph, with its part.
-use Rattle.std.proofs.Common.{◌≡◌, ◌≢◌, ℕ, zero, suc, ◌<◌, Bool, true, false, ◌||◌, List, [], ◌∷◌, length, map, set, Option, Some, None, MatchOption, IsSomeAnd, option_map, option_and_then, slice_get, ◌&&◌, nat_eq, refl, sym, ◌∙◌, ap, subst, arith, eqb-true, length-set}
+use Rattle.std.proofs.Common.{◌≡◌, ◌≢◌, ℕ, zero, suc, ◌<◌, Bool, true, false, ◌||◌, List, [], ◌∷◌, length, get_or, map, set, Option, Some, None, MatchOption, IsSomeAnd, option_map, option_and_then, slice_get, ◌&&◌, nat_eq, refl, sym, ◌∙◌, ap, subst, arith, eqb-true, length-set}
 use Rattle.std.specs.Prelude.{is_some, unwrap_or}
 use Rattle.std.proofs.lemmas.List.{length-map}
-use Rattle.std.proofs.lemmas.Option.{slice_get-map}
+use Rattle.std.proofs.lemmas.Option.{slice_get-get_or, slice_get-map}
 use Rattle.omx_types.specs.declared.fault.PartFault.{PartFault}
 use Rattle.omx_types.specs.declared.handle.Handle.{Handle}
 use Rattle.part_api.specs.declared.attached.Attached.TheVariants.{From, To}
@@ -34,6 +34,7 @@ use Rattle.header_core.specs.BufferHeader.{BufferHeader}
 use Rattle.work_landing.specs.declared.step.Step.{Step as Stepped}
 use Rattle.work_landing.specs.Landed.{IsLeft, done_by}
 use Rattle.work_landing.specs.Places.{carried_from}
+use Rattle.il_component.specs.Entries.{component_of}
 use Rattle.graph_core.specs.Entries.{Entries, component_at, components_of, look_of}
 use Rattle.graph_core.specs.Entries as core
 use Rattle.graph_core.specs.Finishing.{ComesBack}
@@ -53,7 +54,7 @@ use Rattle.il_flow.specs.Works.{DoneOf, seen_done}
 use Rattle.il_graph.specs.Finishing.{IsItsOwn, Returns, failed_by}
 use Rattle.il_graph.specs.HandedIn.{KeepsHandedIn}
 use Rattle.il_graph.specs.Shown.{Shown, IsWhole, IsPartOf, KeepsFiles, seen_of, seen_parts, file_of, kept}
-use Rattle.il_graph.proofs.Calling.{at_some}
+use Rattle.il_graph.proofs.Calling.{and_some, at_some}
 use Rattle.il_graph.proofs.HandedIn.{keeps_at}
 use Rattle.il_graph.proofs.Filing.{number_placed, parts_set, placed_set}
 use Rattle.il_graph.proofs.PartsStay.{PartsStay, after_effect, has_parts_stay, part_of}
@@ -217,10 +218,21 @@ module _ {A B : Type 0} where
 
 -- ---- the graph with the part
 
+-- the work is back, and the part q at the place
+pub record HasComeBack {S K C : Type 0} (progress : C → Progress) (g : Shown S K C) (k : Entries C) (i number : ℕ) (done : List ℕ → WorkDone) (q : ShownPart S K) : Type 0 where
+  -- each world in which the work comes back goes on to one
+  pub step : (took : List ℕ) → StepsWhere (kept progress g) (kept progress (record { core = k; parts = set g.parts i (Some q) })) (λ w. Returns w (done took) (seen_of q)) (λ w v. Finish w (done took) v)
+  pub whole : first_due (look_of k) ≡ None → IsWhole progress (record { core = k; parts = set g.parts i (Some q) })
+  -- the file that came along, and those of the others
+  pub file : file_of number (record { core = k; parts = set g.parts i (Some q) }) ≡ q.file
+  pub files : KeepsFiles number g (record { core = k; parts = set g.parts i (Some q) })
+  -- the client has what it had
+  pub held : KeepsHandedIn (look_of g.core) (look_of k)
+
 module _ {S K C : Type 0} (progress : C → Progress) (g : Shown S K C) (k : Entries C) (i : ℕ) (c : Component) (done : List ℕ → WorkDone) (q : ShownPart S K) (I : IsWhole progress g) (at : slice_get (components_of g.core.entries) i ≡ Some c)
     (own : (took : List ℕ) → (done took).component ≡ number_of c) (p : Option (ShownPart S K)) (here : slice_get g.parts i ≡ Some p) (tied : (took : List ℕ) → IsPartOf (failed_by (done took).fault c) q)
     (T : (took : List ℕ) → StepsBareWhere (core.kept progress g.core) (core.kept progress k) (λ w. Returns w (done took) (seen_of q)) (λ w v. Finish w (done took) v)) where
-  abbrev pub back : Shown S K C
+  abbrev back : Shown S K C
   back = record { core = k; parts = set g.parts i (Some q) }
 
   module _ (took : List ℕ) (w : World) (s : Stands (kept progress g) w) (R : Returns w (done took) (seen_of q)) where
@@ -233,7 +245,7 @@ module _ {S K C : Type 0} (progress : C → Progress) (g : Shown S K C) (k : Ent
     here_in : slice_get w.components i ≡ Some c
     here_in = ap (λ (l : Look). slice_get l.components i) B.looks ∙ at
 
-    pub after : (v : World) × StandsBare (core.kept progress k) v × Finish w (done took) v
+    after : (v : World) × StandsBare (core.kept progress k) v × Finish w (done took) v
     after = T took w B R
 
     end : IsEnded w i c (done took) (seen_parts g.parts) q
@@ -243,7 +255,7 @@ module _ {S K C : Type 0} (progress : C → Progress) (g : Shown S K C) (k : Ent
     stay : PartsStay (finished i c (done took) w) after.0
     stay = subst (λ (u : World). PartsStay u after.0) (numbered_is w i c (done took) sound here_in (own took)) (after_effect w sound (acts.Finish (done took)) acts.Finished after.0 R.0 after.2)
 
-    pub stands : Stands (kept progress back) after.0
+    stands : Stands (kept progress back) after.0
     stands = whole progress back after.0 after.1
         (subst (λ (ps : List (Option PartSeen)). HasParts ps after.0) (sym (map_set (option_map seen_of) g.parts i (Some q)))
         (has_parts_stay (set (seen_parts g.parts) i (Some (seen_of q))) (finished i c (done took) w) after.0 stay end.kept))
@@ -253,7 +265,7 @@ module _ {S K C : Type 0} (progress : C → Progress) (g : Shown S K C) (k : Ent
         ap (λ (l : Look). map part_of l.components) (sym after.1.looks)
         ∙ (stay.parts ∙ (ap (map part_of) end.components ∙ ap (λ (l : Look). map part_of (set l.components i end.to)) B.looks))
 
-    pub is_whole : first_due (look_of k) ≡ None → IsWhole progress back
+    is_whole : first_due (look_of k) ≡ None → IsWhole progress back
     is_whole closed = record {
       closed = closed;
       count = length-set g.parts i (Some q) ∙ (I.count ∙ (sym (length-set (components_of g.core.entries) i end.to) ∙ count_alike (set (components_of g.core.entries) i end.to) (components_of k.entries) alike));
@@ -270,24 +282,25 @@ module _ {S K C : Type 0} (progress : C → Progress) (g : Shown S K C) (k : Ent
     placed = ap (λ (l : Look). place_numbered (number_of c) l.components) (sym B.looks) ∙ placed_there w.numbered i w.components c sound.rising here_in
 
     -- the file that came along
-    pub file_back : (n : ℕ) → n ≡ number_of c → file_of n back ≡ q.file
+    file_back : (n : ℕ) → n ≡ number_of c → file_of n back ≡ q.file
     file_back n e =
         ap (option_and_then (λ j. option_and_then (option_and_then (λ (x : ShownPart S K). x.file)) (slice_get (set g.parts i (Some q)) j))) (numbers n ∙ (ap (λ (m : ℕ). place_numbered m (components_of g.core.entries)) e ∙ placed))
         ∙ ap (option_and_then (option_and_then (λ (x : ShownPart S K). x.file))) (get_set_same g.parts i p (Some q) here)
 
-    pub files_stay : (n : ℕ) → n ≡ number_of c → KeepsFiles n g back
+    files_stay : (n : ℕ) → n ≡ number_of c → KeepsFiles n g back
     files_stay n e m apart =
         let f : Option (ShownPart S K) → Option (PartFile S K) = option_and_then (λ (x : ShownPart S K). x.file) in
         ap (option_and_then (λ j. option_and_then f (slice_get (set g.parts i (Some q)) j))) (numbers m)
         ∙ told_set f g.parts i (Some q) (place_numbered m (components_of g.core.entries)) (λ z. apart (sym (number_placed m (components_of g.core.entries) i c z at) ∙ sym e))
 
-  -- each world in which the work comes back goes on to one
-  pub back_whole : (took : List ℕ) → StepsWhere (kept progress g) (kept progress back) (λ w. Returns w (done took) (seen_of q)) (λ w v. Finish w (done took) v)
-  back_whole took = λ w s R. ((after took w s R).0, stands took w s R, (after took w s R).2)
-
-  -- the client has what it had
-  pub held_back : (took : List ℕ) (w : World) (s : Stands (kept progress g) w) (R : Returns w (done took) (seen_of q)) → KeepsHandedIn (look_of g.core) (look_of k)
-  held_back took w s R = keeps_at progress g.core k (acts.Finish (done took)) acts.Finished refl refl w (B took w s R) (sound took w s R) R.0 (after took w s R).0 (after took w s R).1 (after took w s R).2
+  pub came_back : (took : List ℕ) (w : World) → Stands (kept progress g) w → Returns w (done took) (seen_of q) → (n : ℕ) → n ≡ number_of c → HasComeBack progress g k i n done q
+  came_back took w s R n e = record {
+    step = λ took w s R. ((after took w s R).0, stands took w s R, (after took w s R).2);
+    whole = is_whole took w s R;
+    file = file_back took w s R n e;
+    files = files_stay took w s R n e;
+    held = keeps_at progress g.core k (acts.Finish (done took)) acts.Finished refl refl w (B took w s R) (sound took w s R) R.0 (after took w s R).0 (after took w s R).1 (after took w s R).2;
+  }
 
 -- ---- the call
 
@@ -413,3 +426,78 @@ is_told false o x h e = let z : None ≡ Some x = sym e ∙ h refl in absurd cc
 pub is_brought : {B : Type 0} (a : Bool) (o : Option B) (b : B) → (a ≡ true → o ≡ None) → o ≡ Some b → a ≡ false
 is_brought false o b h e = refl
 is_brought true o b h e = let z : None ≡ Some b = sym (h refl) ∙ e in absurd cc
+
+-- ---- the call, by what it has
+
+-- what is known of the work that comes back as d, with its part as q
+pub record IsKnown {S K C P : Type 0} (progress : C → Progress) (g : Shown S K C) (i : ℕ) (d : DoneOf P) (q : ShownPart S K) : Type 0 where
+  pub component : Component
+  pub at : slice_get (components_of g.core.entries) i ≡ Some component
+  pub number : d.component.generation ≡ number_of component
+  pub out : IsSomeAnd component.work (λ work. work.announces ≡ d.announces)
+  pub tied : IsPartOf (failed_by d.fault component) q
+  pub took : List ℕ
+  pub world : World
+  pub stands : Stands (kept progress g) world
+  pub returns : Returns world (seen_done took d) (seen_of q)
+
+-- what a step brings back, and not an announcement
+pub record IsBrought {S K P : Type 0} (d : DoneOf P) (q : ShownPart S K) (places : List (Option BufferHeader)) (step : Stepped) : Type 0 where
+  pub announces : d.announces ≡ false
+  pub headers : places ≡ d.headers
+  pub frames : step.frames ≡ d.frames
+  pub fault : step.fault ≡ d.fault
+  pub left : step.left ≡ unwrap_or q.left 0
+
+module _ {S K C P : Type 0} (progress : C → Progress) (g : Shown S K C) (i : ℕ) (d : DoneOf P) (q : ShownPart S K) (I : IsWhole progress g) (Y : IsKnown progress g i d q) where
+  module _ (m k : Entries C) (old : Option (ShownPart S K)) (here : slice_get g.parts i ≡ Some old) (closes : StepsBare (core.kept progress m) (core.kept progress k) ClosesTo) where
+    back_by : ((took : List ℕ) → StepsBareWhere (core.kept progress g.core) (core.kept progress k) (λ w. Returns w (seen_done took d) (seen_of q)) (λ w v. Finish w (seen_done took d) v))
+        → HasComeBack progress g k i d.component.generation (λ took. seen_done took d) q
+    back_by T = came_back progress g k i Y.component (λ took. seen_done took d) q I Y.at (λ took. Y.number) old here (λ took. Y.tied) T Y.took Y.world Y.stands Y.returns d.component.generation Y.number
+
+    pub told_back : ((done : WorkDone) → MatchOption (component_at i g.core) ⊥ (λ c. StepsBare (core.kept progress g.core) (core.kept progress m) (λ w v. v ≡ finished i c done w)))
+        → HasComeBack progress g k i d.component.generation (λ took. seen_done took d) q
+    told_back s = back_by (λ took. told_returns progress g.core m k i Y.component Y.at (λ w B. sound_in progress g I w B) closes (seen_done took d) (seen_of q) Y.number s)
+
+    pub worked_back : (places : List (Option BufferHeader)) (step : Stepped) → IsBrought d q places step
+        → ((took : List ℕ) → MatchOption (component_at i g.core) ⊥ (λ c. StepsBareWhere (core.kept progress g.core) (core.kept progress m) (λ w. ComesBack w c places step took) (λ w v. v ≡ finished i c (done_by (number_of c) places step took) w)))
+        → HasComeBack progress g k i d.component.generation (λ took. seen_done took d) q
+    worked_back places step Z s = back_by (λ took.
+        subst (λ (x : WorkDone). StepsBareWhere (core.kept progress g.core) (core.kept progress k) (λ w. Returns w x (seen_of q)) (λ w v. Finish w x v))
+        (brought_done d (number_of Y.component) places step.frames step.fault step.left took (sym Y.number) Z.headers Z.frames Z.fault)
+        (step_returns progress g.core m k i Y.component Y.at (λ w B. sound_in progress g I w B) closes places step (seen_of q) (works_so Y.component d.announces false Z.announces Y.out) Z.left s took))
+
+  pub comes_with : (places : List (Option BufferHeader)) (step : Stepped) → IsBrought d q places step
+      → IsSomeAnd (component_at i g.core) (λ c. (w : World) × (took : List ℕ) × (StandsBare (core.kept progress g.core) w × ComesBack w c places step took))
+  comes_with places step Z =
+      let B = bare progress g Y.world Y.stands in
+      let R = return_of Y.world i Y.component (seen_done Y.took d) (seen_of q) (sound_in progress g I Y.world B) (ap (λ (l : Look). slice_get l.components i) B.looks ∙ Y.at) Y.number Y.returns in
+      and_some (λ c. (w : World) × (took : List ℕ) × (StandsBare (core.kept progress g.core) w × ComesBack w c places step took)) (component_at i g.core) Y.component Y.at (
+        Y.world,
+        Y.took,
+        (
+          B,
+          comes_back Y.world Y.component places step Y.took (seen_of q) (works_so Y.component d.announces false Z.announces Y.out) Z.left
+              (subst (λ (x : WorkDone). IsReturn Y.world Y.component x (seen_of q)) (sym (brought_done d (number_of Y.component) places step.frames step.fault step.left Y.took (sym Y.number) Z.headers Z.frames Z.fault)) R),
+        ),
+      )
+
+-- ---- the part's place
+
+module _ {S K C P : Type 0} (progress : C → Progress) (f : P → ShownPart S K) (items : List (Option P)) (core : Entries C) (i : ℕ) (I : IsWhole progress (record { core = core; parts = map (option_map f) items })) (b : i < length core.entries) where
+  there_within : i < length items
+  there_within = items_within (option_map f) component_of items core.entries i I.count b
+
+  pub place_within : (n : ℕ) → n ≡ length items → i < n
+  place_within n e = subst (λ (m : ℕ). i < m) (sym e) there_within
+
+  -- what is read there
+  pub read_part : (o : Option P) → o ≡ get_or items i o → slice_get (map (option_map f) items) i ≡ Some (option_map f o)
+  read_part o e = slice_get-map (option_map f) items i ∙ ap (option_map (option_map f)) (slice_get-get_or items i o there_within ∙ ap Some (sym e))
+
+-- nothing with a file was there
+pub was_empty : {A B C P : Type 0} {s : _} {k : _} (told : A → Option (List ℕ)) (keeps : B → Option (List ℕ)) (name : B → List ℕ) (progress : C → Progress) (items : List (Option (AnyPart A B s k))) (core : Entries C) (i : ℕ)
+    (I : IsWhole progress (record { core = core; parts = map (option_map (shown_by told keeps name)) items })) → i < length core.entries → {d : DoneOf P} {q : ShownPart A B} → IsKnown progress (record { core = core; parts = map (option_map (shown_by told keeps name)) items }) i d q
+    → (old : Option (AnyPart A B s k)) → old ≡ get_or items i old → option_and_then (λ part. part_file part) old ≡ None
+was_empty told keeps name progress items core i I b {d} {q} y old e =
+    no_file told keeps name old (old_file progress _ i y.component (option_map (shown_by told keeps name) old) I y.at (work_out (λ work. work.announces ≡ d.announces) y.component.work y.out) (read_part progress (shown_by told keeps name) items core i I b old e))

@@ -48,6 +48,13 @@ parts_come cs parts d p l D none P = record {
   ];
 }
 
+-- a component has come, behind all others, and its part p
+pub record HasCome {S K C : Type 0} (progress : C → Progress) (g : Shown S K C) (k : Entries C) (name : List ℕ) (h : Handle) (p : ShownPart S K) : Type 0 where
+  pub step : Steps (kept progress g) (kept progress (record { core = k; parts = g.parts ++ Some p ∷ [] })) (λ w v. Step w (acts.GetHandle name) (acts.Got (Ok h)) v)
+  pub whole : first_due (look_of k) ≡ None → IsWhole progress (record { core = k; parts = g.parts ++ Some p ∷ [] })
+  pub own : p.file ≡ None → file_of h.generation (record { core = k; parts = g.parts ++ Some p ∷ [] }) ≡ None
+  pub others : KeepsFiles h.generation g (record { core = k; parts = g.parts ++ Some p ∷ [] })
+
 module _ {S K C : Type 0} (progress : C → Progress) (g : Shown S K C) (k : Entries C) (name : List ℕ) (h : Handle) (kind : Kind) (I : IsWhole progress g)
     (named : kind_of name ≡ Some kind) (number : h.generation ≡ (look_of g.core).numbered)
     (T : StepsBare (core.kept progress g.core) (core.kept progress k) (λ w v. Step w (acts.GetHandle name) (acts.Got (Ok h)) v))
@@ -71,10 +78,10 @@ module _ {S K C : Type 0} (progress : C → Progress) (g : Shown S K C) (k : Ent
       subst (λ (ps : List (Option PartSeen)). HasParts ps (with_new_component h kind w)) (sym (map-append (option_map seen_of) g.parts (Some p ∷ [])))
       (parts_made (seen_parts g.parts) w (fresh h kind) (seen_of p) n (done w.numbered) (length-map g.parts (option_map seen_of) ∙ (I.count ∙ ap length (sym (same w B)))) (below w B) s.streams s.parts)
 
-  pub made_whole : Steps (kept progress g) (kept progress (record { core = k; parts = g.parts ++ Some p ∷ [] })) (λ w v. Step w (acts.GetHandle name) (acts.Got (Ok h)) v)
+  made_whole : Steps (kept progress g) (kept progress (record { core = k; parts = g.parts ++ Some p ∷ [] })) (λ w v. Step w (acts.GetHandle name) (acts.Got (Ok h)) v)
   made_whole = changed_whole progress g k (acts.GetHandle name) (acts.Got (Ok h)) I (λ w B. tt) T (with_new_component h kind) (components_of g.core.entries ++ fresh h kind ∷ []) (g.parts ++ Some p ∷ []) stay there parts
 
-  pub made_is_whole : first_due (look_of k) ≡ None → IsWhole progress (record { core = k; parts = g.parts ++ Some p ∷ [] })
+  made_is_whole : first_due (look_of k) ≡ None → IsWhole progress (record { core = k; parts = g.parts ++ Some p ∷ [] })
   made_is_whole closed = changed_is_whole progress g k (acts.GetHandle name) (acts.Got (Ok h)) I (λ w B. tt) T (with_new_component h kind) (components_of g.core.entries ++ fresh h kind ∷ []) (g.parts ++ Some p ∷ []) stay there parts
       closed
       (let a = length-append g.parts (Some p ∷ []) in let b = length-append (components_of g.core.entries) (fresh h kind ∷ []) in let c = I.count in omega (arith, a, b, c))
@@ -86,14 +93,14 @@ module _ {S K C : Type 0} (progress : C → Progress) (g : Shown S K C) (k : Ent
       places_alike n (components_of k.entries) (components_of g.core.entries ++ fresh h kind ∷ []) alike ∙ is_first_place (is_numbered n) (components_of g.core.entries ++ fresh h kind ∷ [])
 
   -- the files of the others
-  pub made_files : KeepsFiles h.generation g (record { core = k; parts = g.parts ++ Some p ∷ [] })
+  made_files : KeepsFiles h.generation g (record { core = k; parts = g.parts ++ Some p ∷ [] })
   made_files n apart =
       let f : Option (ShownPart S K) → Option (PartFile S K) = option_and_then (λ (x : ShownPart S K). x.file) in
       ap (option_and_then (λ j. option_and_then f (slice_get (g.parts ++ Some p ∷ []) j))) (placed n)
       ∙ (told_come f n (components_of g.core.entries) g.parts (fresh h kind) (Some p) I.count (λ e. apart (sym e))
       ∙ sym (ap (option_and_then (λ j. option_and_then f (slice_get g.parts j))) (is_first_place (is_numbered n) (components_of g.core.entries))))
 
-  pub made_own : p.file ≡ None → file_of h.generation (record { core = k; parts = g.parts ++ Some p ∷ [] }) ≡ None
+  made_own : p.file ≡ None → file_of h.generation (record { core = k; parts = g.parts ++ Some p ∷ [] }) ≡ None
   made_own none =
       let f : Option (ShownPart S K) → Option (PartFile S K) = option_and_then (λ (x : ShownPart S K). x.file) in
       let w = I.worlds.world in
@@ -102,3 +109,6 @@ module _ {S K C : Type 0} (progress : C → Progress) (g : Shown S K C) (k : Ent
       (subst (λ (cs : List Component). All (λ c. number_of c < w.numbered) cs) (same w B) (below w B)) in
       ap (option_and_then (λ j. option_and_then f (slice_get (g.parts ++ Some p ∷ []) j))) (placed h.generation)
       ∙ (told_new f h.generation (components_of g.core.entries) g.parts (fresh h kind) (Some p) I.count refl (no_number h.generation (components_of g.core.entries) few) ∙ none)
+
+  pub has_come : HasCome progress g k name h p
+  has_come = record { step = made_whole; whole = made_is_whole; own = made_own; others = made_files }

@@ -45,10 +45,14 @@ abbrev pub told_of : {S K : Type 0} → (S → ℕ) → (S → Option (List ℕ)
 told_of place told kept (files.From src format frames) = option_map (drop (place src)) (told src)
 told_of place told kept (files.To snk frames) = kept snk
 
-pub offered_is : {S K : Type 0} (place size : S → ℕ) (told : S → Option (List ℕ)) (kept : K → Option (List ℕ)) (file : PartFile S K) (there : ℕ) → OnFrom file (λ src format frames. there ≡ size src - place src)
+offered_is : {S K : Type 0} (place size : S → ℕ) (told : S → Option (List ℕ)) (kept : K → Option (List ℕ)) (file : PartFile S K) (there : ℕ) → OnFrom file (λ src format frames. there ≡ size src - place src)
     → file_offered (attached_of file) there (told_of place told kept file) ≡ offered place size told kept file
 offered_is place size told kept (files.From src format frames) there e = ap (λ (n : ℕ). OfferedFrom format frames n (option_map (drop (place src)) (told src))) e
 offered_is place size told kept (files.To snk frames) there e = refl
+
+pub offered_so : {S K : Type 0} (place size : S → ℕ) (told : S → Option (List ℕ)) (kept : K → Option (List ℕ)) (file : PartFile S K) (a : Attached) (there : ℕ) → a ≡ attached_of file → OnFrom file (λ src format frames. there ≡ size src - place src)
+    → file_offered a there (told_of place told kept file) ≡ offered place size told kept file
+offered_so place size told kept file a there e f = ap (λ (x : Attached). file_offered x there (told_of place told kept file)) e ∙ offered_is place size told kept file there f
 
 pub attached_same : {S K : Type 0} (place size : S → ℕ) (told : S → Option (List ℕ)) (kept : K → Option (List ℕ)) (file : PartFile S K) → attached (offered place size told kept file) ≡ attached_of file
 attached_same place size told kept (files.From src format frames) = refl
@@ -103,6 +107,13 @@ number_placed n cs i c e at =
     let q : x.0 ≡ c = cc in
     ap number_of (sym q) ∙ eqb-true _ _ x.2
 
+-- the file has come to the part at the place, which is p with it
+pub record IsFiledIn {S K C : Type 0} (progress : C → Progress) (g : Shown S K C) (k : Entries C) (h : Handle) (i : ℕ) (file : Offered) (p : ShownPart S K) : Type 0 where
+  pub step : Steps (kept progress g) (kept progress (record { core = k; parts = set g.parts i (Some p) })) (λ w v. Step w (acts.Attach h file) (acts.Plain (Ok tt)) v)
+  pub whole : first_due (look_of k) ≡ None → IsWhole progress (record { core = k; parts = set g.parts i (Some p) })
+  pub own : file_of h.generation (record { core = k; parts = set g.parts i (Some p) }) ≡ p.file
+  pub others : KeepsFiles h.generation g (record { core = k; parts = set g.parts i (Some p) })
+
 module _ {S K C : Type 0} (progress : C → Progress) (g : Shown S K C) (k : Entries C) (h : Handle) (i : ℕ) (c : Component) (file : Offered) (I : IsWhole progress g)
     (place : place_of h (components_of g.core.entries) ≡ Some i) (at : slice_get (components_of g.core.entries) i ≡ Some c)
     (T : StepsBare (core.kept progress g.core) (core.kept progress k) (λ w v. Step w (acts.Attach h file) (acts.Plain (Ok tt)) v))
@@ -127,10 +138,10 @@ module _ {S K C : Type 0} (progress : C → Progress) (g : Shown S K C) (k : Ent
       (parts_attached (seen_parts g.parts) w i c file (option_map seen_of q) (seen_of p) own (λ j d t a. apart_numbers w.numbered j i w.components d c (sound_in progress g I w B).rising t own a)
       (slice_get-map (option_map seen_of) g.parts i ∙ ap (option_map (option_map seen_of)) here) (λ x st. done x) s.parts)
 
-  pub filed_whole : Steps (kept progress g) (kept progress (record { core = k; parts = set g.parts i (Some p) })) (λ w v. Step w (acts.Attach h file) (acts.Plain (Ok tt)) v)
+  filed_whole : Steps (kept progress g) (kept progress (record { core = k; parts = set g.parts i (Some p) })) (λ w v. Step w (acts.Attach h file) (acts.Plain (Ok tt)) v)
   filed_whole = changed_whole progress g k (acts.Attach h file) (acts.Plain (Ok tt)) I (λ w B. tt) T (with_file i c file) (set (components_of g.core.entries) i (record c { file = Some (attached file) })) (set g.parts i (Some p)) stay there parts
 
-  pub filed_is_whole : c.work ≡ None → first_due (look_of k) ≡ None → IsWhole progress (record { core = k; parts = set g.parts i (Some p) })
+  filed_is_whole : c.work ≡ None → first_due (look_of k) ≡ None → IsWhole progress (record { core = k; parts = set g.parts i (Some p) })
   filed_is_whole free closed = changed_is_whole progress g k (acts.Attach h file) (acts.Plain (Ok tt)) I (λ w B. tt) T (with_file i c file) (set (components_of g.core.entries) i (record c { file = Some (attached file) })) (set g.parts i (Some p)) stay there parts
       closed (length-set g.parts i (Some p) ∙ (I.count ∙ sym (length-set (components_of g.core.entries) i (record c { file = Some (attached file) }))))
       (parts_set (components_of g.core.entries) g.parts i c (record c { file = Some (attached file) }) q p at here tied free I.parts)
@@ -144,7 +155,7 @@ module _ {S K C : Type 0} (progress : C → Progress) (g : Shown S K C) (k : Ent
       let alike = changed_alike progress g k (acts.Attach h file) (acts.Plain (Ok tt)) I (λ w B. tt) T (with_file i c file) (set (components_of g.core.entries) i d) (set g.parts i (Some p)) stay there parts in
       places_alike n (components_of k.entries) (set (components_of g.core.entries) i d) alike ∙ placed_set n (components_of g.core.entries) i c d at refl
 
-  pub filed_own : number_of c ≡ h.generation → file_of h.generation (record { core = k; parts = set g.parts i (Some p) }) ≡ p.file
+  filed_own : number_of c ≡ h.generation → file_of h.generation (record { core = k; parts = set g.parts i (Some p) }) ≡ p.file
   filed_own own =
       let w = I.worlds.world in
       let B = bare progress g w I.worlds.stands in
@@ -154,8 +165,11 @@ module _ {S K C : Type 0} (progress : C → Progress) (g : Shown S K C) (k : Ent
       ap (option_and_then (λ j. option_and_then (option_and_then (λ (x : ShownPart S K). x.file)) (slice_get (set g.parts i (Some p)) j))) (numbers h.generation ∙ z)
       ∙ ap (option_and_then (option_and_then (λ (x : ShownPart S K). x.file))) (get_set_same g.parts i q (Some p) here)
 
-  pub filed_others : number_of c ≡ h.generation → KeepsFiles h.generation g (record { core = k; parts = set g.parts i (Some p) })
+  filed_others : number_of c ≡ h.generation → KeepsFiles h.generation g (record { core = k; parts = set g.parts i (Some p) })
   filed_others own n apart =
       let f : Option (ShownPart S K) → Option (PartFile S K) = option_and_then (λ (x : ShownPart S K). x.file) in
       ap (option_and_then (λ j. option_and_then f (slice_get (set g.parts i (Some p)) j))) (numbers n)
       ∙ told_set f g.parts i (Some p) (place_numbered n (components_of g.core.entries)) (λ e. apart (sym (number_placed n (components_of g.core.entries) i c e at) ∙ own))
+
+  pub filed : c.work ≡ None → number_of c ≡ h.generation → IsFiledIn progress g k h i file p
+  filed free own = record { step = filed_whole; whole = filed_is_whole free; own = filed_own own; others = filed_others own }

@@ -41,6 +41,20 @@ FormatLaw = (t : Terms) (port : ℕ) (format : _) → IsLawful t → MayHave t p
 abbrev pub FactorLaw : Type 0
 FactorLaw = (t : Terms) (input factor : ℕ) → IsLawful t → IsLawful (with_factor t input factor)
 
+-- what a work of the component is given, whose part was q: the headers, and the part p
+pub record IsGiven {A B : Type 0} (c : Component) (places : List (Option BufferHeader)) (q : ShownPart A B) (announces : Bool) (p : ShownPart A B) : Type 0 where
+  pub lawful : IsLawful p.terms
+  pub within : AreWithin (ports_by p.terms) 0 places
+  pub outputs : announces ≡ false → HaveOutputs p.terms places
+  pub none : announces ≡ true → carried_from 0 places ≡ []
+  pub ready : announces ≡ false → IsReady p.terms p.failed
+  pub terms : announces ≡ false → p.terms ≡ terms_of c
+  pub file : p.file ≡ q.file
+  pub failed : p.failed ≡ c.part.failed
+  -- it is that of the component as it is once its work is out
+  pub own : (d : Component) (work : Work) → part_of d ≡ part_of (record c { work = Some work }) → work.announces ≡ announces → IsItsOwn d announces None p.terms p.failed
+  pub done : (t : Terms) (f : Bool) (x : Stream) → HasDone t f x (seen_of q) → HasDone t f x (seen_of p)
+
 module _ {A B : Type 0} (l : Look) (c : Component) (S : IsSound c) (ok : claim_idle l c ≡ None) (places : List (Option BufferHeader)) (s : Stocked) (same : s.headers ≡ l.headers) (F : HasFronts c places s)
     (q : ShownPart A B) (T : IsPartOf c q) (formats : FormatLaw) (factors : FactorLaw) where
   -- an announcement, or not
@@ -80,35 +94,16 @@ module _ {A B : Type 0} (l : Look) (c : Component) (S : IsSound c) (ok : claim_i
     fronts : AreFronts (number_of c) 0 (map (gives_to a c) (ports_of c)) places s
     fronts = subst (λ (b : Bool). AreFronts (number_of c) 0 (map (gives_to b c) (ports_of c)) places s) (sym tells) F
 
-    pub given_lawful : IsLawful p.terms
+    given_lawful : IsLawful p.terms
     given_lawful = subst (λ (x : ShownPart A B). IsLawful x.terms) (sym is) (lawful_by a tells)
 
     given_kind : p.terms.kind ≡ c.settings.kind
     given_kind = subst (λ (x : ShownPart A B). x.terms.kind ≡ c.settings.kind) (sym is) (kind_by a tells)
 
-    pub given_within : AreWithin (ports_by p.terms) 0 places
-    given_within = lent_within l c S ok places s same p.terms given_kind given_lawful a tells fronts
-
-    pub given_outputs : a ≡ false → HaveOutputs p.terms places
-    given_outputs e = lent_outputs l c S ok places s same p.terms given_kind given_lawful a tells fronts e
-
-    pub given_none : a ≡ true → carried_from 0 places ≡ []
-    given_none e = lent_none l c S ok places s same p.terms given_kind given_lawful a tells fronts e
-
-    pub given_ready : a ≡ false → IsReady p.terms p.failed
-    given_ready e = subst (λ (x : ShownPart A B). IsReady x.terms x.failed) (sym is) (ready_by a tells e)
-
-    pub given_terms : a ≡ false → p.terms ≡ terms_of c
-    given_terms e = subst (λ (x : ShownPart A B). x.terms ≡ terms_of c) (sym is) (terms_by_case a tells e)
-
-    pub given_file : p.file ≡ q.file
-    given_file = subst (λ (x : ShownPart A B). x.file ≡ q.file) (sym is) (file_by a)
-
-    pub given_failed : p.failed ≡ c.part.failed
+    given_failed : p.failed ≡ c.part.failed
     given_failed = subst (λ (x : ShownPart A B). x.failed ≡ c.part.failed) (sym is) (failed_by a ∙ T.failed)
 
-    -- it is that of the component as it is once its work is out
-    pub given_own : (d : Component) (work : Work) → part_of d ≡ part_of (record c { work = Some work }) → work.announces ≡ a → IsItsOwn d a None p.terms p.failed
+    given_own : (d : Component) (work : Work) → part_of d ≡ part_of (record c { work = Some work }) → work.announces ≡ a → IsItsOwn d a None p.terms p.failed
     given_own d work e n = record {
       work = and_some (λ (x : Work). x.announces ≡ a) d.work work (ap (λ (x : PartOf). x.work) e) n;
       kind = given_kind ∙ sym (ap (λ (x : PartOf). x.kind) e);
@@ -116,8 +111,19 @@ module _ {A B : Type 0} (l : Look) (c : Component) (S : IsSound c) (ok : claim_i
       so_failed = given_failed ∙ (sym (ap (λ (x : PartOf). x.failed) e) ∙ sym (or_false d.part.failed));
     }
 
-    pub given_done : (t : Terms) (f : Bool) (x : Stream) → HasDone t f x (seen_of q) → HasDone t f x (seen_of p)
-    given_done t f x D = subst (λ (y : ShownPart A B). HasDone t f x (seen_of y)) (sym is) (done_by a t f x D)
+    pub given : IsGiven c places q a p
+    given = record {
+      lawful = given_lawful;
+      within = lent_within l c S ok places s same p.terms given_kind given_lawful a tells fronts;
+      outputs = λ e. lent_outputs l c S ok places s same p.terms given_kind given_lawful a tells fronts e;
+      none = λ e. lent_none l c S ok places s same p.terms given_kind given_lawful a tells fronts e;
+      ready = λ e. subst (λ (x : ShownPart A B). IsReady x.terms x.failed) (sym is) (ready_by a tells e);
+      terms = λ e. subst (λ (x : ShownPart A B). x.terms ≡ terms_of c) (sym is) (terms_by_case a tells e);
+      file = subst (λ (x : ShownPart A B). x.file ≡ q.file) (sym is) (file_by a);
+      failed = given_failed;
+      own = given_own;
+      done = λ t f x D. subst (λ (y : ShownPart A B). HasDone t f x (seen_of y)) (sym is) (done_by a t f x D);
+    }
 
 -- so much has gone through the part before
 pub was_so_far : {S K C : Type 0} (progress : C → Progress) (g : Shown S K C) (i : ℕ) (c : Component) (q : ShownPart S K) → slice_get (components_of g.core.entries) i ≡ Some c → c.work ≡ None → c.part.failed ≡ false → slice_get g.parts i ≡ Some (Some q)

@@ -29,14 +29,16 @@ use Rattle.il_component.specs.Entries.{Entry, component_of}
 use Rattle.graph_core.specs.Clients.{KeepsAllClients}
 use Rattle.graph_core.specs.Entries.{Entries, component_at, components_of, entry_named, look_of}
 use Rattle.graph_core.specs.Entries as core
+use Rattle.audio_parts.specs.declared.any_part.AnyPart.{AnyPart}
 use Rattle.audio_parts.specs.declared.part_file.PartFile.{PartFile}
 use Rattle.audio_parts.specs.Shown.{ShownPart}
 use Rattle.il_flow.specs.Places.{carried_from}
+use Rattle.il_flow.specs.Works.{WorkOf}
 use Rattle.port_rules.specs.Claiming.{claimed_by}
 use Rattle.port_rules.specs.declared.claiming.NoWork.{NoWork}
 use Rattle.port_rules.specs.declared.claiming.NoWork.TheVariants as answers
 use Rattle.il_graph.specs.declared.claimed.Claimed.{Claimed as Answer}
-use Rattle.il_graph.specs.Claiming.{IsSoFar, answer_of, told_by}
+use Rattle.il_graph.specs.Claiming.{IsSoFar, OnWork, answer_of, told_by}
 use Rattle.il_graph.specs.Preparing.{prepared, with_formats, with_port_format}
 use Rattle.il_graph.specs.Shown.{Shown, IsWhole, IsPartOf, ArePartsOf, KeepsFiles, seen_parts, file_at, file_of, kept, seen_of}
 use Rattle.il_graph.proofs.Back.{number_named}
@@ -62,6 +64,10 @@ abbrev pub lent_work : Component → List (Option BufferHeader) → WorkSeen
 lent_work c places = record { component = number_of c; terms = terms_of c; headers = carried_from 0 places; announces = must_announce c }
 
 module _ {C : Type 0} (progress : C → Progress) (g : Entries C) (h : Handle) (i : ℕ) (F : Found progress g h i) where
+  -- nothing keeps it
+  pub may_go : MatchOption (component_at i g) ⊥ (λ c. None ≡ claim_idle (look_of g) c) → claim_idle (look_of g) F.component ≡ None
+  may_go m = sym (at_some (λ c. None ≡ claim_idle (look_of g) c) (component_at i g) F.component F.at m)
+
   -- what keeps a work from going out
   pub no_work : (idle : Claimed) → MatchOption (component_at i g) ⊥ (λ c. Some idle ≡ claim_idle (look_of g) c)
       → StepsBare (core.kept progress g) (core.kept progress g) (λ w v. Claim w h (Ok idle) v)
@@ -109,16 +115,15 @@ module _ {S K : Type 0} {s : _} {k : _} (x : Answer S K s k) where
   told_so t (answers.NoRoom port) e = rw e refl
   told_so t (answers.Events room need) e = rw e refl
 
--- by the answer
-pub idle_cases : {G : Type 0} (idle : NoWork) → (idle ≡ answers.Busy → G) → (idle ≡ answers.NotRunning → G) → (idle ≡ answers.Ended → G) → ((port : ℕ) → idle ≡ answers.Held port → G) → ((port : ℕ) → idle ≡ answers.NoData port → G)
-    → ((port : ℕ) → idle ≡ answers.NoRoom port → G) → ((room need : ℕ) → idle ≡ answers.Events room need → G) → G
-idle_cases answers.Busy a b d e f h j = a refl
-idle_cases answers.NotRunning a b d e f h j = b refl
-idle_cases answers.Ended a b d e f h j = d refl
-idle_cases (answers.Held port) a b d e f h j = e port refl
-idle_cases (answers.NoData port) a b d e f h j = f port refl
-idle_cases (answers.NoRoom port) a b d e f h j = h port refl
-idle_cases (answers.Events room need) a b d e f h j = j room need refl
+  -- it gives no work
+  pub gives_none : (E : Type 0) (P : WorkOf (AnyPart S K s k) → Type 0) (idle : NoWork) → x ≡ answer_of idle → OnWork {E = E} (Ok x) P
+  gives_none E P answers.Busy e = rw e tt
+  gives_none E P answers.NotRunning e = rw e tt
+  gives_none E P answers.Ended e = rw e tt
+  gives_none E P (answers.Held port) e = rw e tt
+  gives_none E P (answers.NoData port) e = rw e tt
+  gives_none E P (answers.NoRoom port) e = rw e tt
+  gives_none E P (answers.Events room need) e = rw e tt
 
 -- ---- so much has gone through the part
 
@@ -182,6 +187,19 @@ part_gone {S = S} {K = K} cs parts i c d work at out o here P = record { there =
       | inr e ↦ get_set_other parts i j None e.1 ∙ P.away j x (sym (get_set_other cs i j d e.1) ∙ t) works
     ]
 
+-- the work of the component c, at the place, has gone out with its part q
+pub record HasGone {S K C : Type 0} (progress : C → Progress) (g : Shown S K C) (k : Entries C) (h : Handle) (i : ℕ) (c : Component) (x : WorkSeen) (q : ShownPart S K) : Type 0 where
+  -- each world goes on to one, with what is so of its streams
+  pub step : (t : Terms) (p : PartSeen) → ((w : World) → Stands (kept progress g) w → IsSoFar t w (number_of c) p)
+      → Steps (kept progress g) (kept progress (record { core = k; parts = set g.parts i None })) (λ w v. Step w (acts.Claim h) (acts.Claimed (Ok (ClaimedWork x))) v × IsSoFar t v (number_of c) p)
+  pub whole : first_due (look_of k) ≡ None → IsWhole progress (record { core = k; parts = set g.parts i None })
+  -- the component that the handle names has its work out, and its part is tied to it as before
+  pub named : KeepsAllClients g.core k → (d : Component) × (component_named h (components_of k.entries) ≡ Some d) × (part_of d ≡ part_of (record c { work = Some (work_of (look_of g.core).headers c) }))
+  -- the file that went along, and those of the others
+  pub own : file_of h.generation (record { core = k; parts = set g.parts i None }) ≡ None
+  pub file : file_of h.generation g ≡ q.file
+  pub others : KeepsFiles h.generation g (record { core = k; parts = set g.parts i None })
+
 module _ {S K C : Type 0} (progress : C → Progress) (g : Shown S K C) (k : Entries C) (h : Handle) (i : ℕ) (c : Component) (x : WorkSeen) (I : IsWhole progress g)
     (place : place_of h (components_of g.core.entries) ≡ Some i) (at : slice_get (components_of g.core.entries) i ≡ Some c)
     (T : StepsBare (core.kept progress g.core) (core.kept progress k) (λ w v. Step w (acts.Claim h) (acts.Claimed (Ok (ClaimedWork x))) v)) where
@@ -210,7 +228,7 @@ module _ {S K C : Type 0} (progress : C → Progress) (g : Shown S K C) (k : Ent
       (parts_claimed (seen_parts g.parts) w i c (work_of (seen w.headers) c) own s.parts)
 
   -- each world goes on to one, with what is so of its streams
-  pub gone_whole : (t : Terms) (p : PartSeen) → ((w : World) → Stands (kept progress g) w → IsSoFar t w (number_of c) p)
+  gone_whole : (t : Terms) (p : PartSeen) → ((w : World) → Stands (kept progress g) w → IsSoFar t w (number_of c) p)
       → Steps (kept progress g) (kept progress (record { core = k; parts = set g.parts i None })) (λ w v. Step w (acts.Claim h) (acts.Claimed (Ok (ClaimedWork x))) v × IsSoFar t v (number_of c) p)
   gone_whole t p far w s =
       let B = bare progress g w s in
@@ -221,7 +239,7 @@ module _ {S K C : Type 0} (progress : C → Progress) (g : Shown S K C) (k : Ent
         (y.2, λ z e. far w s z (ap (λ (ss : List Stream). find (is_stream_of (number_of c)) ss) (sym K.streams) ∙ e)),
       )
 
-  pub gone_is_whole : (o : Option (ShownPart S K)) → slice_get g.parts i ≡ Some o → first_due (look_of k) ≡ None → IsWhole progress (record { core = k; parts = set g.parts i None })
+  gone_is_whole : (o : Option (ShownPart S K)) → slice_get g.parts i ≡ Some o → first_due (look_of k) ≡ None → IsWhole progress (record { core = k; parts = set g.parts i None })
   gone_is_whole o here closed = changed_is_whole progress g k (acts.Claim h) (acts.Claimed (Ok (ClaimedWork x))) I (λ w B. tt) T mid (set (components_of g.core.entries) i out) (set g.parts i None) stay there parts
       closed (length-set g.parts i None ∙ (I.count ∙ sym (length-set (components_of g.core.entries) i out)))
       (part_gone (components_of g.core.entries) g.parts i c out (work_of (look_of g.core).headers c) at refl o here I.parts)
@@ -233,7 +251,7 @@ module _ {S K C : Type 0} (progress : C → Progress) (g : Shown S K C) (k : Ent
       places_alike n (components_of k.entries) (set (components_of g.core.entries) i out) alike ∙ placed_set n (components_of g.core.entries) i c out at refl
 
   -- the component that the handle names has its work out, and its part is tied to it as before
-  pub gone_named : KeepsAllClients g.core k → (d : Component) × (component_named h (components_of k.entries) ≡ Some d) × (part_of d ≡ part_of out)
+  gone_named : KeepsAllClients g.core k → (d : Component) × (component_named h (components_of k.entries) ≡ Some d) × (part_of d ≡ part_of out)
   gone_named clients =
       let before : option_map component_of (entry_named h g.core) ≡ Some c = sym (named_is progress g.core h) ∙ (ap (option_and_then (slice_get (components_of g.core.entries))) place ∙ at) in
       let e = still_there component_of (λ (x : Entry C). x.queues.client) (entry_named h g.core) (entry_named h k) c before (clients h) in
@@ -257,17 +275,20 @@ module _ {S K C : Type 0} (progress : C → Progress) (g : Shown S K C) (k : Ent
       ap (λ (n : ℕ). place_numbered n (components_of g.core.entries)) (sym own)
       ∙ (ap (place_numbered (number_of c)) (sym (same w B)) ∙ placed_there w.numbered i w.components c I.worlds.sound.rising t)
 
-  pub gone_own : number_of c ≡ h.generation → (q : Option (ShownPart S K)) → slice_get g.parts i ≡ Some q → file_of h.generation (record { core = k; parts = set g.parts i None }) ≡ None
+  gone_own : number_of c ≡ h.generation → (q : Option (ShownPart S K)) → slice_get g.parts i ≡ Some q → file_of h.generation (record { core = k; parts = set g.parts i None }) ≡ None
   gone_own own q here =
       ap (option_and_then (λ j. option_and_then (option_and_then (λ (x : ShownPart S K). x.file)) (slice_get (set g.parts i None) j))) (numbers h.generation ∙ placed own)
       ∙ ap (option_and_then (option_and_then (λ (x : ShownPart S K). x.file))) (get_set_same g.parts i q None here)
 
   -- the file that went along
-  pub gone_file : number_of c ≡ h.generation → (q : ShownPart S K) → slice_get g.parts i ≡ Some (Some q) → file_of h.generation g ≡ q.file
+  gone_file : number_of c ≡ h.generation → (q : ShownPart S K) → slice_get g.parts i ≡ Some (Some q) → file_of h.generation g ≡ q.file
   gone_file own q here = ap (option_and_then (file_at g)) (placed own) ∙ ap (option_and_then (option_and_then (λ (y : ShownPart S K). y.file))) here
 
-  pub gone_others : number_of c ≡ h.generation → KeepsFiles h.generation g (record { core = k; parts = set g.parts i None })
+  gone_others : number_of c ≡ h.generation → KeepsFiles h.generation g (record { core = k; parts = set g.parts i None })
   gone_others own n apart =
       let f : Option (ShownPart S K) → Option (PartFile S K) = option_and_then (λ (x : ShownPart S K). x.file) in
       ap (option_and_then (λ j. option_and_then f (slice_get (set g.parts i None) j))) (numbers n)
       ∙ told_set f g.parts i None (place_numbered n (components_of g.core.entries)) (λ e. apart (sym (number_placed n (components_of g.core.entries) i c e at) ∙ own))
+
+  pub has_gone : number_of c ≡ h.generation → (q : ShownPart S K) → slice_get g.parts i ≡ Some (Some q) → HasGone progress g k h i c x q
+  has_gone own q here = record { step = gone_whole; whole = gone_is_whole (Some q) here; named = gone_named; own = gone_own own (Some q) here; file = gone_file own q here; others = gone_others own }

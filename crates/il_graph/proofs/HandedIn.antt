@@ -186,9 +186,6 @@ module _ {C : Type 0} (progress : C → Progress) where
   keeps_alike old new e = record { stay = λ header H. subst (λ (k : Kept). IsHandedIn header k.looks) (sym e) H; come = λ number H. subst (λ (k : Kept). IsWithClient number k.looks) e H }
 
   -- nothing changed
-  pub stays_equal : (g k : Entries C) → k ≡ g → StayHandedIn (look_of g) (look_of k)
-  stays_equal g k e = subst (λ (x : Entries C). StayHandedIn (look_of g) (look_of x)) (sym e) (λ header H. H)
-
   pub stays_same : (g : Entries C) → StayHandedIn (look_of g) (look_of g)
   stays_same g = λ header H. H
 

@@ -1,16 +1,18 @@
 -- The part of a component that a call found.
-use Rattle.std.proofs.Common.{◌≡◌, ℕ, ◌-◌, ◌*◌, ◌<◌, ◌≤◌, Bool, true, false, not, ◌||◌, nat_lt, List, [], ◌∷◌, drop, length, map, Option, Some, None, option_map, slice_get, refl, ◌∙◌, ap, subst, ltb-false, arith}
+use Rattle.std.proofs.Common.{◌≡◌, ℕ, ◌-◌, ◌*◌, ◌<◌, ◌≤◌, Bool, true, false, not, ◌||◌, nat_lt, List, [], ◌∷◌, drop, length, map, Option, Some, None, MatchOption, option_map, slice_get, refl, ◌∙◌, ap, subst, ltb-false, sym, get_or, arith}
 use Rattle.std.specs.Prelude.{is_some}
 use Rattle.std.specs.List.{list_any}
 use Rattle.std.proofs.lemmas.List.{length-map}
-use Rattle.std.proofs.lemmas.Option.{slice_get_within}
+use Rattle.std.proofs.lemmas.Option.{slice_get-get_or, slice_get-map, slice_get_within}
 use Rattle.omx_types.specs.declared.format.Format.{Format}
+use Rattle.omx_types.specs.declared.handle.Handle.{Handle}
 use Rattle.omx_types.specs.declared.kind.Kind.{Kind}
 use Rattle.omx_types.specs.declared.kind.Kind.TheVariants as kinds
 use Rattle.omx_types.specs.declared.state.State.{State}
 use Rattle.omx_types.specs.declared.state.State.TheVariants as states
 use Rattle.omx_types.specs.declared.error.OmxError.TheVariants as errors
 use Rattle.omx_types.specs.Formats.{frame_bytes_of}
+use Rattle.part_api.specs.declared.attached.Attached.{Attached}
 use Rattle.il_machine.specs.declared.answer.Progress.{Progress}
 use Rattle.il_machine.specs.Files.{Offered, OfferedFrom, OfferedTo, attach_refusal, file_port_format, is_bad_file, is_for_kind, is_wrong_format}
 use Rattle.il_machine.specs.Components.{free_refusal}
@@ -26,12 +28,15 @@ use Rattle.il_machine.specs.World.{Component, Work, ports_of}
 use Rattle.il_machine.specs.Sound.{IsConnected, IsSound, may_work}
 use Rattle.machine_laws.proofs.Accepting.{both_of, not_not, passed}
 use Rattle.machine_laws.proofs.Every.{at_place}
-use Rattle.audio_parts.specs.AnyParts.{MayAttach, OnFrom}
+use Rattle.audio_parts.specs.AnyParts.{MayAttach, OnFrom, attached_of}
 use Rattle.audio_parts.specs.declared.part_file.PartFile.{PartFile}
 use Rattle.audio_parts.specs.declared.part_file.PartFile.TheVariants as files
 use Rattle.audio_parts.specs.Shown.{ShownPart}
-use Rattle.graph_core.specs.Entries.{components_of}
+use Rattle.il_component.specs.Files.{offered as file_offered}
+use Rattle.graph_core.specs.Entries.{Entries, component_at, components_of}
 use Rattle.il_graph.specs.Shown.{ArePartsOf, Shown, IsWhole, IsPartOf, offered}
+use Rattle.il_graph.proofs.Calling.{Found, at_some}
+use Rattle.il_graph.proofs.Filing.{offered_so, told_of}
 use Rattle.il_graph.proofs.Lending.{part_there}
 use Rattle.il_graph.proofs.Ready.{either_of}
 
@@ -68,6 +73,13 @@ attach_passes c file h =
     let e = either_of (not (is_for_kind c.settings.kind file)) (any_of (is_some c.file ∷ is_bad_file c.settings.kind (file_port_format c) file ∷ [])) b.0 in
     let f = either_of (is_some c.file) (any_of (is_bad_file c.settings.kind (file_port_format c) file ∷ [])) e.1 in
     record { for_kind = not_not (is_for_kind c.settings.kind file) e.0; without = none_of c.file f.0; good = (either_of (is_bad_file c.settings.kind (file_port_format c) file) false f.1).0; settable = not_not (is_settable c) d.0 }
+
+-- the core, which knows no file's bytes, refuses nothing
+pub attachable : {S K C : Type 0} (progress : C → Progress) (g : Entries C) (h : Handle) (i : ℕ) (F : Found progress g h i) (place size : S → ℕ) (told : S → Option (List ℕ)) (kept : K → Option (List ℕ)) (file : PartFile S K) (a : Attached) (there : ℕ)
+    → a ≡ attached_of file → OnFrom file (λ src format frames. there ≡ size src - place src)
+    → ((known : Option (List ℕ)) → MatchOption (component_at i g) ⊥ (λ c. None ≡ attach_refusal c (file_offered a there known))) → attach_refusal F.component (offered place size told kept file) ≡ None
+attachable progress g h i F place size told kept file a there e f m =
+    rw (← offered_so place size told kept file a there e f) (sym (at_some (λ c. None ≡ attach_refusal c (file_offered a there (told_of place told kept file))) (component_at i g) F.component F.at (m (told_of place told kept file))))
 
 loaded_rests : (s : State) → is_loaded s ≡ true → (is_running s || is_invalid s) ≡ true → ⊥
 loaded_rests states.Loaded l m = absurd cc
@@ -108,6 +120,34 @@ module _ {S K C : Type 0} (progress : C → Progress) (g : Shown S K C) (I : IsW
 
 pub items_within : {S K P : Type 0} (f : P → ShownPart S K) (items : List (Option P)) (i : ℕ) → i < length (map (option_map f) items) → i < length items
 items_within f items i b = let n = length-map items (option_map f) in omega (arith, n, b)
+
+-- the part at the place is the component's
+pub record IsSeated {S K P : Type 0} (c : Component) (f : P → ShownPart S K) (items : List (Option P)) (i : ℕ) (seat : P) : Type 0 where
+  pub tied : IsPartOf c (f seat)
+  pub held : slice_get (map (option_map f) items) i ≡ Some (Some (f seat))
+
+module _ {S K C P : Type 0} (progress : C → Progress) (f : P → ShownPart S K) (items : List (Option P)) (core : Entries C) (h : Handle) (i : ℕ) (F : Found progress core h i) (I : IsWhole progress (record { core = core; parts = map (option_map f) items })) where
+  place_within : i < length items
+  place_within = items_within f items i (part_within progress _ I i F.component F.at)
+
+  pub seat_within : (n : ℕ) → n ≡ length items → i < n
+  seat_within n e = subst (λ (m : ℕ). i < m) (sym e) place_within
+
+  -- what is read there
+  module _ (free : F.component.work ≡ None) (o : Option P) (read : o ≡ get_or items i o) where
+    read_there : slice_get items i ≡ Some o
+    read_there = slice_get-get_or items i o place_within ∙ ap Some (sym read)
+
+    pub seat_there : o ≡ None → ⊥
+    seat_there none =
+        let x = holds_part progress _ I i F.component F.at f items refl free o read_there in
+        let e : None ≡ Some x.0 = sym none ∙ x.1 in
+        absurd cc
+
+    pub seated : (seat : P) → o ≡ Some seat → IsSeated F.component f items i seat
+    seated seat is =
+        let there : slice_get items i ≡ Some (Some seat) = read_there ∙ ap Some is in
+        record { tied = holds_it progress _ I i F.component F.at f items refl free seat there; held = slice_get-map (option_map f) items i ∙ ap (option_map (option_map f)) there }
 
 -- ---- the file may come to the part
 

@@ -38,6 +38,13 @@ parts_left cs parts i P = record {
   away = λ j d at out. let m = if nat_lt j i then j else suc j in get_removed parts i j ∙ P.away m d (sym (get_removed cs i j) ∙ at) out;
 }
 
+-- the component at the place has left, and its part q
+pub record HasLeft {S K C : Type 0} (progress : C → Progress) (g : Shown S K C) (k : Entries C) (h : Handle) (i : ℕ) (file : Option Attached) (q : Option (ShownPart S K)) : Type 0 where
+  pub step : Steps (kept progress g) (kept progress (record { core = k; parts = remove g.parts i })) (λ w v. Step w (acts.FreeHandle h) (acts.Removed (Ok file)) v)
+  pub whole : first_due (look_of k) ≡ None → IsWhole progress (record { core = k; parts = remove g.parts i })
+  pub own : file_of h.generation g ≡ option_and_then (λ (p : ShownPart S K). p.file) q
+  pub others : KeepsFiles h.generation g (record { core = k; parts = remove g.parts i })
+
 module _ {S K C : Type 0} (progress : C → Progress) (g : Shown S K C) (k : Entries C) (h : Handle) (i : ℕ) (c : Component) (file : Option Attached) (I : IsWhole progress g)
     (place : place_of h (components_of g.core.entries) ≡ Some i) (at : slice_get (components_of g.core.entries) i ≡ Some c)
     (T : StepsBare (core.kept progress g.core) (core.kept progress k) (λ w v. Step w (acts.FreeHandle h) (acts.Removed (Ok file)) v)) where
@@ -59,15 +66,15 @@ module _ {S K C : Type 0} (progress : C → Progress) (g : Shown S K C) (k : Ent
       subst (λ (ps : List (Option PartSeen)). HasParts ps (without_component i c w)) (sym (map_remove (option_map seen_of) g.parts i))
       (parts_removed (seen_parts g.parts) w i c (λ j d t a. apart_numbers w.numbered j i w.components d c (sound_in progress g I w B).rising t own a) s.parts)
 
-  pub left_whole : Steps (kept progress g) (kept progress (record { core = k; parts = remove g.parts i })) (λ w v. Step w (acts.FreeHandle h) (acts.Removed (Ok file)) v)
+  left_whole : Steps (kept progress g) (kept progress (record { core = k; parts = remove g.parts i })) (λ w v. Step w (acts.FreeHandle h) (acts.Removed (Ok file)) v)
   left_whole = changed_whole progress g k (acts.FreeHandle h) (acts.Removed (Ok file)) I (λ w B. tt) T (without_component i c) (remove (components_of g.core.entries) i) (remove g.parts i) stay there parts
 
-  pub left_is_whole : first_due (look_of k) ≡ None → IsWhole progress (record { core = k; parts = remove g.parts i })
+  left_is_whole : first_due (look_of k) ≡ None → IsWhole progress (record { core = k; parts = remove g.parts i })
   left_is_whole closed = changed_is_whole progress g k (acts.FreeHandle h) (acts.Removed (Ok file)) I (λ w B. tt) T (without_component i c) (remove (components_of g.core.entries) i) (remove g.parts i) stay there parts
       closed (removed_alike g.parts (components_of g.core.entries) i I.count) (parts_left (components_of g.core.entries) g.parts i I.parts)
 
   -- the files of the others
-  pub left_files : number_of c ≡ h.generation → KeepsFiles h.generation g (record { core = k; parts = remove g.parts i })
+  left_files : number_of c ≡ h.generation → KeepsFiles h.generation g (record { core = k; parts = remove g.parts i })
   left_files own n apart =
       let alike = changed_alike progress g k (acts.FreeHandle h) (acts.Removed (Ok file)) I (λ w B. tt) T (without_component i c) (remove (components_of g.core.entries) i) (remove g.parts i) stay there parts in
       let f : Option (ShownPart S K) → Option _ = option_and_then (λ (p : ShownPart S K). p.file) in
@@ -76,7 +83,7 @@ module _ {S K C : Type 0} (progress : C → Progress) (g : Shown S K C) (k : Ent
       ∙ sym (ap (option_and_then (λ j. option_and_then f (slice_get g.parts j))) (is_first_place (is_numbered n) (components_of g.core.entries))))
 
   -- its own file
-  pub own_file : number_of c ≡ h.generation → (p : Option (ShownPart S K)) → slice_get g.parts i ≡ Some p → file_of h.generation g ≡ option_and_then (λ (q : ShownPart S K). q.file) p
+  own_file : number_of c ≡ h.generation → (p : Option (ShownPart S K)) → slice_get g.parts i ≡ Some p → file_of h.generation g ≡ option_and_then (λ (q : ShownPart S K). q.file) p
   own_file own p here =
       let w = I.worlds.world in
       let B = bare progress g w I.worlds.stands in
@@ -84,3 +91,6 @@ module _ {S K C : Type 0} (progress : C → Progress) (g : Shown S K C) (k : Ent
       let q : place_numbered h.generation (components_of g.core.entries) ≡ Some i = ap (λ (n : ℕ). place_numbered n (components_of g.core.entries)) (sym own)
       ∙ (ap (place_numbered (number_of c)) (sym (same w B)) ∙ placed_there w.numbered i w.components c I.worlds.sound.rising t) in
       ap (option_and_then (file_at g)) q ∙ ap (option_and_then (option_and_then (λ (q : ShownPart S K). q.file))) here
+
+  pub has_left : number_of c ≡ h.generation → (q : Option (ShownPart S K)) → slice_get g.parts i ≡ Some q → HasLeft progress g k h i file q
+  has_left own q here = record { step = left_whole; whole = left_is_whole; own = own_file own q here; others = left_files own }

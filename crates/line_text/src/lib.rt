@@ -11,7 +11,7 @@ mod words;
 
 pub use hex::put_hex;
 pub use line_words::LineWords;
-pub use lines::next_line;
+pub use lines::{feed_in, next_line};
 pub use numbers::{one_numeral, put_number, read_u64};
 pub use read_numbers::{number_in, small_number_in};
 pub use script::{is_first_line, is_skipped};

@@ -22,7 +22,7 @@ pub fn next_line(text: &[u8]) -> Option<(&[u8], &[u8])>
 }
 
 /// The place of the first line feed, or the length.
-fn feed_in(text: &[u8]) -> usize
+pub fn feed_in(text: &[u8]) -> usize
     ensures within { result ≤ length text.now }
     ensures before { (k : ℕ) → k < result → slice_index text.now k ≡ 10 → ⊥ }
     ensures feed { result < length text.now → slice_index text.now result ≡ 10 }

@@ -115,7 +115,7 @@ file_setting c j new H same file e =
     let f = same_first j c.settings.ports new (default_setting c.settings.kind (is_input c.settings.kind 0)) same in
     rw f (H file e)
 
-same_is : (f g : Format) → same_format f g ≡ true → f ≡ g
+pub same_is : (f g : Format) → same_format f g ≡ true → f ≡ g
 same_is (Pcm r n) (Pcm s m) h = let b = both_of (nat_eq r s) (nat_eq n m) h in let x = eqb-true r s b.0 in let y = eqb-true n m b.1 in rw (x, y) refl
 same_is (Alaw r n) (Alaw s m) h = let b = both_of (nat_eq r s) (nat_eq n m) h in let x = eqb-true r s b.0 in let y = eqb-true n m b.1 in rw (x, y) refl
 same_is (Mulaw r n) (Mulaw s m) h = let b = both_of (nat_eq r s) (nat_eq n m) h in let x = eqb-true r s b.0 in let y = eqb-true n m b.1 in rw (x, y) refl
@@ -139,11 +139,11 @@ known_source (Alaw r n) h = refl
 known_source (Mulaw r n) h = refl
 known_source Auto h = absurd cc
 
-itself : (f : Format) → same_format f f ≡ true
-itself (Pcm r n) = rw (eq-eqb r r refl, eq-eqb n n refl) refl
-itself (Alaw r n) = rw (eq-eqb r r refl, eq-eqb n n refl) refl
-itself (Mulaw r n) = rw (eq-eqb r r refl, eq-eqb n n refl) refl
-itself Auto = refl
+pub format_itself : (f : Format) → same_format f f ≡ true
+format_itself (Pcm r n) = rw (eq-eqb r r refl, eq-eqb n n refl) refl
+format_itself (Alaw r n) = rw (eq-eqb r r refl, eq-eqb n n refl) refl
+format_itself (Mulaw r n) = rw (eq-eqb r r refl, eq-eqb n n refl) refl
+format_itself Auto = refl
 
 read_kept : (kind : Kind) (old new format : Format) (frames : ℕ) → (kind ≡ kinds.Source → same_format format old ≡ true → same_format format new ≡ true)
     → may_have kind old (From format frames) ≡ true → may_have kind new (From format frames) ≡ true
@@ -171,7 +171,7 @@ source_same c p d format frames S at F e k m =
     (λ t.
     let o : not (same_format d.format format) ≡ false = rw (t, e) at F.on_file in
     let is = same_is d.format format (not_not (same_format d.format format) o) in
-    rw is (itself format))
+    rw is (format_itself format))
     (λ f.
     let o : not (same_format d.format old) ≡ false = rw (f, known, e) at F.kept in
     let is = same_is d.format old (not_not (same_format d.format old) o) in

@@ -70,8 +70,8 @@ fn first_error(earlier: Option<OmxError>, error: OmxError) -> Option<OmxError>
     }
 }
 
-/// What the progress comes to by one more event.
-fn moved(progress: Progress, event: Event) -> Progress
+/// What a progress comes to by one more event.
+pub fn progress_after(progress: Progress, event: Event) -> Progress
     ensures { result ≡ moved_by event progress }
 {
     let mut next = progress;
@@ -99,7 +99,7 @@ impl Client for ProgressClient {
     ghost progress = { λ client. client };
 
     fn hear(&mut self, event: Event) {
-        self.progress = moved(self.progress, event);
+        self.progress = progress_after(self.progress, event);
     }
 
     fn progress(&self) -> Progress {

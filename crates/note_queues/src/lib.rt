@@ -11,7 +11,7 @@ mod laws;
 mod notes;
 mod taken;
 
-pub use client::{Client, HolderClient, ProgressClient};
+pub use client::{Client, HolderClient, ProgressClient, progress_after};
 pub use laws::law_of_room;
 pub use notes::Notes;
 pub use taken::{Call, Full, QueuedCommand, Taken, Took};

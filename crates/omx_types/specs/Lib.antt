@@ -1,3 +1,4 @@
 pub mod Formats
 pub mod Names
 pub mod Numbers
+pub mod Texts

@@ -59,9 +59,16 @@ pub enum ScriptWhy {
     Differ,
 }
 
-impl fmt::Display for ScriptWhy {
-    fn fmt<W: fmt::Write>(&self, f: &mut fmt::Formatter<W>) -> fmt::Result {
-        f.write_str(match self {
+impl ScriptWhy {
+    ghost use Rattle.std.specs.Prelude.{◌≤◌, length};
+    ghost use Rattle.omx_types.specs.Texts.{why_text};
+
+    /// The reason, in the words that are printed.
+    pub fn text(self) -> &'static str
+        ensures text { result.now ≡ why_text self }
+        ensures len { length result.now ≤ 15 }
+    {
+        match self {
             ScriptWhy::TooLong => "too long",
             ScriptWhy::NotText => "not text",
             ScriptWhy::FirstLine => "first line",
@@ -76,7 +83,13 @@ impl fmt::Display for ScriptWhy {
             ScriptWhy::Wrong => "wrong format",
             ScriptWhy::Small => "block too small",
             ScriptWhy::Differ => "formats differ",
-        })
+        }
+    }
+}
+
+impl fmt::Display for ScriptWhy {
+    fn fmt<W: fmt::Write>(&self, f: &mut fmt::Formatter<W>) -> fmt::Result {
+        f.write_str(self.text())
     }
 }
 
@@ -91,14 +104,27 @@ pub enum PacketsWhy {
     TooLong,
 }
 
-impl fmt::Display for PacketsWhy {
-    fn fmt<W: fmt::Write>(&self, f: &mut fmt::Formatter<W>) -> fmt::Result {
-        f.write_str(match self {
+impl PacketsWhy {
+    ghost use Rattle.std.specs.Prelude.{◌≤◌, length};
+    ghost use Rattle.omx_types.specs.Texts.{packets_text};
+
+    /// The reason, in the words that are printed.
+    pub fn text(self) -> &'static str
+        ensures text { result.now ≡ packets_text self }
+        ensures len { length result.now ≤ 19 }
+    {
+        match self {
             PacketsWhy::WrongFormat => "not G.711 mono 8000",
             PacketsWhy::NotPackets => "not a packet file",
             PacketsWhy::NoPackets => "no packets",
             PacketsWhy::TooLong => "too long",
-        })
+        }
+    }
+}
+
+impl fmt::Display for PacketsWhy {
+    fn fmt<W: fmt::Write>(&self, f: &mut fmt::Formatter<W>) -> fmt::Result {
+        f.write_str(self.text())
     }
 }
 
@@ -115,16 +141,29 @@ pub enum AuditWhy {
     NotEnded,
 }
 
-impl fmt::Display for AuditWhy {
-    fn fmt<W: fmt::Write>(&self, f: &mut fmt::Formatter<W>) -> fmt::Result {
-        f.write_str(match self {
+impl AuditWhy {
+    ghost use Rattle.std.specs.Prelude.{◌≤◌, length};
+    ghost use Rattle.omx_types.specs.Texts.{audit_text};
+
+    /// The reason, in the words that are printed.
+    pub fn text(self) -> &'static str
+        ensures text { result.now ≡ audit_text self }
+        ensures len { length result.now ≤ 13 }
+    {
+        match self {
             AuditWhy::BadLine => "not canonical",
             AuditWhy::OtherAct => "not of a play",
             AuditWhy::NotOut => "not out",
             AuditWhy::OtherReply => "other reply",
             AuditWhy::OtherFile => "other file",
             AuditWhy::NotEnded => "not ended",
-        })
+        }
+    }
+}
+
+impl fmt::Display for AuditWhy {
+    fn fmt<W: fmt::Write>(&self, f: &mut fmt::Formatter<W>) -> fmt::Result {
+        f.write_str(self.text())
     }
 }
 

@@ -10,7 +10,7 @@ use Rattle.script_lang.specs.declared.play_line.PartLine.{PartLine}
 use Rattle.play_forms.specs.declared.plan_fault.PlanFault.{PlanFault}
 use Rattle.play_forms.specs.declared.plan_fault.PlanFault.TheVariants as Plans
 use Rattle.play_result_laws.specs.Files.{IsNoSink, IsReader, IsWriter}
-use Rattle.play_files.specs.Faults.{fault_of_plan}
+use Rattle.play_forms.specs.Faults.{fault_of_plan}
 use Rattle.play_files.specs.Names.{HaveOwnFiles}
 use Rattle.play_course.specs.Settling.{parts_of}
 use Rattle.audit_forms.specs.Audited.{Verdict, Yes, No}

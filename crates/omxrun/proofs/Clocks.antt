@@ -9,7 +9,6 @@ use Rattle.outside_io.specs.declared.whole.Unread.TheVariants as Unreads
 use Rattle.outside_io.proofs.Closed.{told_value}
 use Rattle.omx_types.specs.declared.fault.Fault.{Fault}
 use Rattle.omx_types.specs.declared.fault.Fault.TheVariants as Faults
-use Rattle.omx_types.specs.declared.fault.Which.TheVariants as Files
 use Rattle.omx_types.specs.declared.fault.ScriptWhy.{ScriptWhy}
 use Rattle.omx_types.specs.declared.fault.Status.{Status}
 use Rattle.omx_types.specs.declared.fault.Status.TheVariants as Statuses
@@ -23,9 +22,9 @@ use Rattle.omxrun.specs.Texts.{fault_line}
 use Rattle.omxrun.specs.Reports.{IsPrinted, status_of}
 use Rattle.omxrun.proofs.Absences.{none-counted}
 use Rattle.omxrun.proofs.Causes.{on_ok}
-use Rattle.omxrun.proofs.Complete.{none-some, printed-status, same-text}
+use Rattle.omxrun.proofs.Complete.{printed-status, same-text}
 use Rattle.omxrun.proofs.Runs.{front-none}
-use Rattle.omxrun.proofs.Traces.{front-whole, unread-reason}
+use Rattle.omxrun.proofs.Traces.{front-whole, left-fault as left-trace, unread-reason}
 
 -- what the run of these bytes came to, and what is printed of it
 abbrev pub HasRunTo : List ℕ → Option (List ℕ) → Option (List ℕ) → ℕ → ℕ → Status → Type 0
@@ -35,8 +34,6 @@ HasRunTo bytes old new before now status =
 -- ---- a script that wasn't read
 
 pub unread-clock : (name : List ℕ) (old new : Outside) (unread : Unread) → HasReadReason name 65536 old new unread → (IsTrue old.tells → WasOpened unread → IsSome (old.file name)) → (unread ≢ Unreads.Failed → new.read_faults ≡ old.read_faults) → new.write_faults ≡ old.write_faults → HasClockReason name old new (fault_of_script unread)
-unread-clock name old new Unreads.Absent reason there stands writes = unread-reason name old new Unreads.Absent reason there stands writes
-unread-clock name old new Unreads.Failed reason there stands writes = unread-reason name old new Unreads.Failed reason there stands writes
 unread-clock name old new (Unreads.TooLong size) reason there stands writes =
     let other : Unreads.TooLong size ≢ Unreads.Failed = λ same. cc in (
       record { reads = stands other; writes = writes },
@@ -47,8 +44,7 @@ unread-clock name old new (Unreads.TooLong size) reason there stands writes =
           let longer : 65536 < length bytes = omega (arith, whole, more) in
           record { bytes = bytes; held = held; faulty = inl (longer, refl, refl) }),
     )
-unread-clock name old new (Unreads.Short at size) reason there stands writes = unread-reason name old new (Unreads.Short at size) reason there stands writes
-unread-clock name old new Unreads.OutOfMemory reason there stands writes = unread-reason name old new Unreads.OutOfMemory reason there stands writes
+unread-clock name old new other reason there stands writes = unread-reason name old new other reason there stands writes
 
 -- ---- the run of a script
 
@@ -138,27 +134,10 @@ left-fault : (name bytes : List ℕ) (old new : Outside) (fault : Fault) → IsT
 left-fault name bytes old new (Faults.Script line why) tells given none reason =
     let is = reason.1 tells in
     inr (line, why, refl, subst (λ (b : List ℕ). IsFaulty b line why) (same-text is.bytes bytes (old.file name) is.held given.held) is.faulty)
-left-fault name bytes old new Faults.ReadFault tells given none reason = absurd (none reason.rose)
-left-fault name bytes old new (Faults.Absent Files.Script) tells given none reason = absurd (none-some bytes (old.file name) reason.1 given.held)
-left-fault name bytes old new (Faults.Absent Files.Log) tells given none reason = absurd reason
-left-fault name bytes old new (Faults.Absent (Files.Line line)) tells given none reason = absurd reason
-left-fault name bytes old new (Faults.Absent (Files.Made number)) tells given none reason = absurd reason
-left-fault name bytes old new (Faults.Absent Files.Input) tells given none reason = absurd reason
-left-fault name bytes old new (Faults.Absent Files.Output) tells given none reason = absurd reason
-left-fault name bytes old new Faults.OutOfMemory tells given none reason = inl refl
-left-fault name bytes old new (Faults.Short Files.Script at size) tells given none reason =
-    absurd (let below = reason.1.below in let end = reason.1.stopped given.end given.told_end in let whole = reason.1.whole bytes given.held in let all = given.whole in omega (arith, below, end, whole, all))
-left-fault name bytes old new (Faults.Short Files.Log at size) tells given none reason = absurd reason
-left-fault name bytes old new (Faults.Short (Files.Line line) at size) tells given none reason = absurd reason
-left-fault name bytes old new (Faults.Short (Files.Made number) at size) tells given none reason = absurd reason
-left-fault name bytes old new (Faults.Short Files.Input at size) tells given none reason = absurd reason
-left-fault name bytes old new (Faults.Short Files.Output at size) tells given none reason = absurd reason
-left-fault name bytes old new Faults.Usage tells given none reason = absurd reason
-left-fault name bytes old new (Faults.BadMedia which fault) tells given none reason = absurd reason
-left-fault name bytes old new Faults.WriteFault tells given none reason = absurd reason
-left-fault name bytes old new (Faults.Units have need) tells given none reason = absurd reason
-left-fault name bytes old new (Faults.Packets why) tells given none reason = absurd reason
-left-fault name bytes old new (Faults.NotRun line why) tells given none reason = absurd reason
+left-fault name bytes old new other tells given none reason = elim (left-trace name bytes old new other tells given none reason) [
+  | inl memory ↦ inl memory
+  | inr left ↦ absurd (let is = left.2 in cc)
+]
 
 no-fault : (bytes : List ℕ) (line : ℕ) (why : ScriptWhy) → IsScript bytes → IsFaulty bytes line why → ⊥
 no-fault bytes line why (lines, begun, good) faulty = script-no_fault bytes lines line why begun good faulty

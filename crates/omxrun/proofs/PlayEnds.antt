@@ -29,7 +29,7 @@ use Rattle.play_forms.specs.Joints.{joints_of}
 use Rattle.play_forms.specs.Plans.{IsFaultOfScript, IsFit, IsFitFault, IsFitted, IsPlanOf, IsPlanOfScript, IsSameFault, IsShapeFault, IsValid, PlanValue}
 use Rattle.play_plan_laws.specs.Assemblies.{PlayFiles}
 use Rattle.play_result_laws.specs.Files.{AreFiles, IsReader, IsWriter, read_by}
-use Rattle.play_files.specs.Faults.{fault_of_plan}
+use Rattle.play_forms.specs.Faults.{fault_of_plan}
 use Rattle.play_files.specs.Left.{HaveHeads, IsFittedTo, IsUnplanned, IsUnread as IsUnopenedSource, IsUnfit, IsUnwritten}
 use Rattle.play_files.specs.Opening.{IsShortHead, IsSinkFault, IsSourceFault}
 use Rattle.play_course.specs.Outcomes.{IsLogFault, IsRunFault, IsUndone, WasOpened}

@@ -165,7 +165,7 @@ abbrev pub IsLeftOf : List ℕ → Fault → Type 0
 IsLeftOf bytes fault =
     (fault ≡ Faults.OutOfMemory) ⊎ ((line : ℕ) × (why : ScriptWhy) × (fault ≡ Faults.Script line why) × ReadsAs bytes (Err (fault_at line why)))
 
-left-fault : (name bytes : List ℕ) (old new : Outside) (fault : Fault) → IsTrue old.tells → IsGiven old name bytes → (Rose old.read_faults new.read_faults → ⊥) → HasScriptReason name old new fault → IsLeftOf bytes fault
+pub left-fault : (name bytes : List ℕ) (old new : Outside) (fault : Fault) → IsTrue old.tells → IsGiven old name bytes → (Rose old.read_faults new.read_faults → ⊥) → HasScriptReason name old new fault → IsLeftOf bytes fault
 left-fault name bytes old new (Faults.Script line why) tells given none reason =
     let is = reason.1 tells in
     inr (line, why, refl, subst (λ (b : List ℕ). ReadsAs b (Err (fault_at line why))) (same-text is.bytes bytes (old.file name) is.held given.held) is.refused)

@@ -7,7 +7,7 @@ ghost use Rattle.omx_types.specs.declared.fault.ScriptWhy.{ScriptWhy};
 ghost use Rattle.omx_types.specs.declared.fault.WavFault.{WavFault};
 ghost use Rattle.omxrun.specs.declared.done.Done.{Done};
 ghost use Rattle.play_forms.specs.declared.plan_fault.PlanFault.{PlanFault};
-ghost use Rattle.play_files.specs.Faults.{fault_of_plan};
+ghost use Rattle.play_forms.specs.Faults.{fault_of_plan};
 ghost use Rattle.audit_forms.specs.Audited.{Verdict, Yes};
 ghost use Rattle.audit_forms.specs.Whole.{IsAudited};
 ghost use Rattle.omxrun.specs.Asked.{IsUntraced, CanTrace, IsUnread, HasNoPlan, IsMisfitted, IsFaulty, CanPlay, CanMake, IsFaultless, IsOrMemory};

@@ -2,7 +2,8 @@
 
 ghost use Rattle.std.specs.Prelude.{◌≡◌, ◌+◌, ◌≤◌, ◌++◌, length, codes};
 ghost use Rattle.std.specs.Fmt.{decimal};
-ghost use Rattle.omxrun.specs.Texts.{fault_text, made_text, yes_text, which_text, wav_text, why_text, packets_text, audit_text};
+ghost use Rattle.omx_types.specs.Texts.{audit_text, packets_text, why_text};
+ghost use Rattle.omxrun.specs.Texts.{fault_text, made_text, wav_text, which_text, yes_text};
 
 use crate::text::Text;
 use omx_types::{AuditWhy, Fault, PacketsWhy, ScriptWhy, WavFault, Which};
@@ -71,29 +72,7 @@ fn put_script(text: &mut Text, line: u32, why: ScriptWhy)
     text.push(b"script line ");
     text.push_number(u64::from(line));
     text.push(b": ");
-    text.push(text_of_why(why).as_bytes());
-}
-
-fn text_of_why(why: ScriptWhy) -> &'static str
-    ensures text { result.now ≡ why_text why }
-    ensures len { length result.now ≤ 15 }
-{
-    match why {
-        ScriptWhy::TooLong => "too long",
-        ScriptWhy::NotText => "not text",
-        ScriptWhy::FirstLine => "first line",
-        ScriptWhy::BadWord => "bad word",
-        ScriptWhy::UnknownName => "unknown name",
-        ScriptWhy::NameTwice => "name twice",
-        ScriptWhy::TooMany => "too many",
-        ScriptWhy::PortTwice => "port twice",
-        ScriptWhy::OpenPort => "open port",
-        ScriptWhy::TooManyBlocks => "too many blocks",
-        ScriptWhy::Cycle => "cycle",
-        ScriptWhy::Wrong => "wrong format",
-        ScriptWhy::Small => "block too small",
-        ScriptWhy::Differ => "formats differ",
-    }
+    text.push(why.text().as_bytes());
 }
 
 fn put_which(text: &mut Text, which: Which)
@@ -184,12 +163,7 @@ fn put_packets(text: &mut Text, why: PacketsWhy)
     ensures text { text.new ≡ text.old ++ packets_text why }
     ensures len { length text.new ≤ 120 }
 {
-    match why {
-        PacketsWhy::WrongFormat => text.push(b"not G.711 mono 8000"),
-        PacketsWhy::NotPackets => text.push(b"not a packet file"),
-        PacketsWhy::NoPackets => text.push(b"no packets"),
-        PacketsWhy::TooLong => text.push(b"too long"),
-    }
+    text.push(why.text().as_bytes());
 }
 
 fn put_not_run(text: &mut Text, line: u64, why: AuditWhy)
@@ -200,19 +174,5 @@ fn put_not_run(text: &mut Text, line: u64, why: AuditWhy)
     text.push(b"no: log line ");
     text.push_number(line);
     text.push(b": ");
-    text.push(text_of_audit(why).as_bytes());
-}
-
-fn text_of_audit(why: AuditWhy) -> &'static str
-    ensures text { result.now ≡ audit_text why }
-    ensures len { length result.now ≤ 13 }
-{
-    match why {
-        AuditWhy::BadLine => "not canonical",
-        AuditWhy::OtherAct => "not of a play",
-        AuditWhy::NotOut => "not out",
-        AuditWhy::OtherReply => "other reply",
-        AuditWhy::OtherFile => "other file",
-        AuditWhy::NotEnded => "not ended",
-    }
+    text.push(why.text().as_bytes());
 }

@@ -1,8 +1,6 @@
 -- The acts of an assembly aren't refused.
-use Rattle.std.proofs.Common.{◌≡◌, ◌≢◌, ℕ, ◌<◌, ◌≤◌, Bool, true, false, not, ◌&&◌, ◌||◌, nat_eq, nat_le, [], ◌∷◌, Option, Some, None, is_some, is_none, refl, ◌∙◌, ap, eq-eqb, ne_eqb, le-leb, arith}
+use Rattle.std.proofs.Common.{◌≡◌, ◌≢◌, ℕ, ◌<◌, ◌≤◌, Bool, true, false, not, ◌&&◌, ◌||◌, nat_eq, nat_le, [], ◌∷◌, Option, Some, None, is_some, is_none, refl, ◌∙◌, ap, ne_eqb, le-leb, arith}
 use Rattle.std.proofs.lemmas.Bool.{lt-ltb}
-use Rattle.omx_types.specs.declared.format.Format.{Format}
-use Rattle.omx_types.specs.declared.format.Format.TheVariants.{Pcm, Alaw as AlawFormat, Mulaw as MulawFormat, Auto}
 use Rattle.omx_types.specs.declared.kind.Kind.{Kind}
 use Rattle.omx_types.specs.declared.kind.Kind.TheVariants.{Source, Late, Decoder, Alaw, Mulaw, Gain, Mixer, Splitter, Sink}
 use Rattle.omx_types.specs.declared.param.Param.TheVariants as params
@@ -20,6 +18,7 @@ use Rattle.il_machine.specs.Settings.{is_definition_of, is_index_of, is_port_of,
 use Rattle.il_machine.specs.States.{is_invalid, is_loaded}
 use Rattle.il_machine.specs.Tunnels.{are_output_and_input, setup_refusal}
 use Rattle.il_machine.specs.World.{Component, port_of, same_handle}
+use Rattle.machine_laws.proofs.Fitting.{format_itself}
 use Rattle.play_build_laws.specs.Assembly.{factors_in}
 use Rattle.play_build_laws.specs.Stages.{factor_key, factor_value, port_key}
 use Rattle.play_build_laws.proofs.Calm.{skips}
@@ -103,12 +102,6 @@ file_accepted c file U n k b =
     skips _ _ _ (not_invalid c U) (skips _ _ _ bad (skips _ _ _ (ap not (settable c U)) refl))
 
 -- ---- a tunnel
-
-pub format_itself : (f : Format) → same_format f f ≡ true
-format_itself (Pcm rate channels) = rw (eq-eqb rate rate refl, eq-eqb channels channels refl) refl
-format_itself (AlawFormat rate channels) = rw (eq-eqb rate rate refl, eq-eqb channels channels refl) refl
-format_itself (MulawFormat rate channels) = rw (eq-eqb rate rate refl, eq-eqb channels channels refl) refl
-format_itself Auto = refl
 
 pub tunnel_accepted : (c d : Component) (o r : Option Port) (p q : Port) → IsUnstarted c → IsUnstarted d → o ≡ Some p → r ≡ Some q → is_input_port p ≡ false → is_input_port q ≡ true
     → c.handle.generation ≢ d.handle.generation → p.state.link ≡ None → q.state.link ≡ None → q.setting.definition.format ≡ p.setting.definition.format → setup_refusal (seen []) c d o r ≡ None

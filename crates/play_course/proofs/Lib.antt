@@ -5,3 +5,4 @@ pub mod Told
 pub mod Failing
 pub mod Ends
 pub mod Closed
+pub mod Logged

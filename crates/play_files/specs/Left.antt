@@ -12,7 +12,7 @@ use Rattle.play_forms.specs.Plans.{IsFaultOfScript, IsFit, IsFitFault, IsFitted,
 use Rattle.play_plan_laws.specs.Assemblies.{PlayFiles}
 use Rattle.play_result_laws.specs.Files.{AreFiles, IsReader, IsWriter, written_by}
 use Rattle.play_files.specs.Asked.{HasAskedFor, read_names, written_names}
-use Rattle.play_files.specs.Faults.{fault_of_plan}
+use Rattle.play_forms.specs.Faults.{fault_of_plan}
 use Rattle.play_files.specs.Opening.{HasHead, IsSinkFault, IsSourceMet, IsStill}
 
 -- the told file of each source of the first places has its head, which is the one of its number

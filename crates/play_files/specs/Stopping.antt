@@ -7,11 +7,20 @@ use Rattle.wav_form.specs.declared.heads.WavHead.{WavHead}
 use Rattle.play_forms.specs.declared.plan_fault.PlanFault.{PlanFault}
 use Rattle.play_forms.specs.Plans.{IsFit, IsFitFault, IsFitted, IsValid, PlanValue}
 use Rattle.play_files.specs.Asked.{HasAskedFor, read_names, written_names}
-use Rattle.play_files.specs.Faults.{fault_of_plan}
+use Rattle.play_forms.specs.Faults.{fault_of_plan}
 use Rattle.play_files.specs.Opening.{AreOpen, AreRead, IsSinkMet, IsSourceMet, IsStill}
 use Rattle.play_files.specs.Seen.{FileSeen}
 
 module _ {F : Type 0} where
+  -- before the sinks: the sources are open, and the plan fits their heads
+  pub record HasFit (seen : F → FileSeen) (old new : Outside) (planned plan : PlanValue) (heads : List WavHead) (entries : List (Option F)) : Type 0 where
+    pub fitted : IsFitted planned heads plan
+    pub valid : IsValid plan
+    pub fit : IsFit plan
+    pub still : IsStill old new
+    pub read : AreRead seen old plan.parts (length plan.parts) heads entries
+    pub asked : HasAskedFor old new (read_names plan.parts)
+
   -- at no file: all are open
   pub record HasOpenedAll (seen : F → FileSeen) (old new : Outside) (planned plan : PlanValue) (heads : List WavHead) (entries : List (Option F)) : Type 0 where
     pub fitted : IsFitted planned heads plan
@@ -37,6 +46,10 @@ module _ {F : Type 0} where
     pub read : AreRead seen old planned.parts (length planned.parts) heads entries
     pub asked : HasAskedFor old new (read_names planned.parts)
 
+  -- before the sinks
+  abbrev pub HasNotFit : (F → FileSeen) → Outside → Outside → PlanValue → PlanValue → List WavHead → List (Option F) → Fault → Type 0
+  HasNotFit seen old new planned plan heads entries fault = AtSource seen old new planned heads entries fault ⊎ AtFit seen old new planned plan heads entries fault
+
   -- at the sink of the place
   pub record AtSink (seen : F → FileSeen) (old new : Outside) (planned plan : PlanValue) (heads : List WavHead) (entries : List (Option F)) (fault : Fault) : Type 0 where
     pub fitted : IsFitted planned heads plan
@@ -48,4 +61,4 @@ module _ {F : Type 0} where
 
   abbrev pub HasStopped : (F → FileSeen) → Outside → Outside → PlanValue → PlanValue → List WavHead → List (Option F) → Fault → Type 0
   HasStopped seen old new planned plan heads entries fault =
-      AtSource seen old new planned heads entries fault ⊎ AtFit seen old new planned plan heads entries fault ⊎ AtSink seen old new planned plan heads entries fault
+      HasNotFit seen old new planned plan heads entries fault ⊎ AtSink seen old new planned plan heads entries fault

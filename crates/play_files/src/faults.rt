@@ -1,30 +1,13 @@
-//! What the faults of planning and of opening are for a play.
+//! What the faults of opening are for a play.
 
 ghost use Rattle.std.specs.Prelude.{◌≡◌};
-ghost use Rattle.play_files.specs.Faults.{fault_of_head, fault_of_plan, fault_of_sink, fault_of_source};
+ghost use Rattle.play_files.specs.Faults.{fault_of_head, fault_of_sink, fault_of_source};
 
-use omx_types::{Fault, ScriptWhy, WavFault, Which};
+use omx_types::{Fault, WavFault, Which};
 use outside_io::Refused;
-use play_forms::PlanFault;
 
-pub(crate) fn plan_fault(fault: PlanFault) -> Fault
-    ensures { result ≡ fault_of_plan fault }
-{
-    let (line, why) = match fault {
-        PlanFault::Units { have, need } => return Fault::Units { have, need },
-        PlanFault::OutOfMemory => return Fault::OutOfMemory,
-        PlanFault::Cycle(line) => (line, ScriptWhy::Cycle),
-        PlanFault::OpenPort(line, _) => (line, ScriptWhy::OpenPort),
-        PlanFault::PortTwice(line) => (line, ScriptWhy::PortTwice),
-        PlanFault::TooMany(line) => (line, ScriptWhy::TooManyBlocks),
-        PlanFault::Wrong(line) => (line, ScriptWhy::Wrong),
-        PlanFault::Small(line) => (line, ScriptWhy::Small),
-        PlanFault::Differ(line) => (line, ScriptWhy::Differ),
-    };
-    Fault::Script { line, why }
-}
-
-pub(crate) fn source_fault(line: u32, refused: Refused) -> Fault
+/// Why a file isn't open that is read by the component in that line.
+pub fn source_fault(line: u32, refused: Refused) -> Fault
     ensures { result ≡ fault_of_source line refused }
 {
     match refused {

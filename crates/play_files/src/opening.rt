@@ -9,9 +9,8 @@ ghost use Rattle.play_files.specs.Whole.{AreAllOpen};
 ghost use Rattle.play_files.specs.Seen.{file_seen};
 
 use crate::closing::close_files;
-use crate::faults::plan_fault;
+use crate::fitting::fit_to_sources;
 use crate::sinks::open_sinks;
-use crate::sources::open_sources;
 use audio_parts::PartFile;
 use omx_types::Fault;
 use outside_io::{Media, Sink, Source};
@@ -44,11 +43,7 @@ fn open_planned<M: Media>(
     ensures whole { OnOk result (HasOpenedAll (file_seen M.Src.Source M.Snk.Sink) (M.outside media.old) (M.outside media.new) plan.old plan.new heads.new.items files.new.items) }
     ensures stopped { IfErr result (HasStopped (file_seen M.Src.Source M.Snk.Sink) (M.outside media.old) (M.outside media.new) plan.old plan.new heads.new.items files.new.items) }
 {
-    open_sources(alloc, media, plan.parts(), heads, files)?;
-    match plan.fit(heads.as_slice()) {
-        Ok(()) => {}
-        Err(fault) => return Err(plan_fault(fault)),
-    }
+    fit_to_sources(alloc, media, plan, heads, files)?;
     open_sinks(
         alloc,
         media,
@@ -69,10 +64,7 @@ pub fn open_files<M: Media>(
     ensures opened { IfOk result (λ opened. AreAllOpen (file_seen M.Src.Source M.Snk.Sink) script.now (M.outside media.old) (M.outside media.new) opened.plan opened.files.items) }
     ensures unopened { IfErr result (IsUnopened script.now (M.outside media.old) (M.outside media.new)) }
 {
-    let mut plan = match Plan::build(alloc, script) {
-        Ok(plan) => plan,
-        Err(fault) => return Err(plan_fault(fault)),
-    };
+    let mut plan = Plan::build(alloc, script)?;
     let Ok(mut heads) = Vec::with_capacity(alloc, plan.parts().len()) else {
         return Err(Fault::OutOfMemory);
     };

@@ -16,7 +16,7 @@ use std::alloc::Global;
 use std::mem::replace;
 
 /// The name of the file that the component writes.
-fn written_name(form: &PartForm) -> Option<&str>
+pub fn written_name(form: &PartForm) -> Option<&str>
     ensures some { IfSome result (λ name. written_by form.now ≡ Some name.now) }
     ensures none { IfNone result (written_by form.now ≡ None) }
 {
@@ -40,7 +40,7 @@ fn open_sink<M: Media>(alloc: Global, media: &mut M, name: &str, line: u32) -> R
 }
 
 /// Puts a file at a place that has none.
-fn put<F>(files: &mut [Option<F>], place: usize, file: F)
+pub fn put_file<F>(files: &mut [Option<F>], place: usize, file: F)
     requires there { place < length files.old }
     requires free { slice_get files.old place ≡ Some None }
     ensures { files.new ≡ slice_set files.old place (Some file) }
@@ -73,7 +73,7 @@ pub(crate) fn open_sinks<M: Media>(
         let part = &parts[place];
         if let Some(name) = written_name(&part.form) {
             let snk = open_sink(alloc, media, name, part.line)?;
-            put(
+            put_file(
                 files,
                 place,
                 PartFile::To {

@@ -10,7 +10,7 @@ ghost use Rattle.play_files.specs.Seen.{file_seen, source_seen};
 use crate::faults::{head_fault, source_fault};
 use audio_parts::PartFile;
 use omx_types::Fault;
-use outside_io::Media;
+use outside_io::{Media, Sink};
 use script_lang::{PartForm, PartLine};
 use std::alloc::Global;
 use wav_form::{WavHead, read_head};
@@ -64,13 +64,13 @@ fn put_last<T>(values: &mut Vec<T>, value: T)
     }
 }
 
-/// Opens the sources of all components. Where one isn't opened, those before it are.
-pub(crate) fn open_sources<M: Media>(
+/// Opens the sources of all components, whatever takes what the sinks write. Where one isn't opened, those before it are.
+pub(crate) fn open_sources<M: Media, K: Sink>(
     alloc: Global,
     media: &mut M,
     parts: &[PartLine],
     heads: &mut Vec<WavHead>,
-    files: &mut Vec<Option<PartFile<M::Src, M::Snk>>>,
+    files: &mut Vec<Option<PartFile<M::Src, K>>>,
 ) -> Result<(), Fault>
     requires no_heads { heads.old.items ≡ [] }
     requires no_files { files.old.items ≡ [] }
@@ -79,10 +79,10 @@ pub(crate) fn open_sources<M: Media>(
     requires heads_room { length parts.now ≤ vec_capacity heads.old }
     requires files_room { length parts.now ≤ vec_capacity files.old }
     ensures still { OnOk result (IsStill (M.outside media.old) (M.outside media.new)) }
-    ensures read { OnOk result (AreRead (file_seen M.Src.Source M.Snk.Sink) (M.outside media.old) parts.now (length parts.now) heads.new.items files.new.items) }
+    ensures read { OnOk result (AreRead (file_seen M.Src.Source K.Sink) (M.outside media.old) parts.now (length parts.now) heads.new.items files.new.items) }
     ensures asked { OnOk result (HasAskedFor (M.outside media.old) (M.outside media.new) (read_names parts.now)) }
     ensures met { IfErr result (λ fault. (place : ℕ) × IsSourceMet (M.outside media.old) (M.outside media.new) parts.now place fault
-        × AreRead (file_seen M.Src.Source M.Snk.Sink) (M.outside media.old) parts.now place heads.new.items files.new.items) }
+        × AreRead (file_seen M.Src.Source K.Sink) (M.outside media.old) parts.now place heads.new.items files.new.items) }
 {
     for part in parts {
         match read_name(&part.form) {

@@ -1,3 +1,4 @@
+pub mod Faults
 pub mod Fitting
 pub mod Flows
 pub mod Joints

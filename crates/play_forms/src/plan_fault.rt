@@ -2,6 +2,7 @@
 
 ghost use Rattle.std.specs.Prelude.{◌≡◌};
 
+use omx_types::{Fault, ScriptWhy};
 use std::alloc::{AllocError, AllocFailed};
 
 /// Why a script makes no plan. A number alone is that of a script line.
@@ -42,5 +43,26 @@ impl<T: Drop> From<AllocFailed<T>> for PlanFault {
 
     fn from(_error: AllocFailed<T>) -> PlanFault {
         PlanFault::OutOfMemory
+    }
+}
+
+impl From<PlanFault> for Fault {
+    ghost use Rattle.play_forms.specs.Faults.{fault_of_plan};
+
+    ghost from_gives = { λ why fault. fault ≡ fault_of_plan why };
+
+    fn from(why: PlanFault) -> Fault {
+        let (line, why) = match why {
+            PlanFault::Units { have, need } => return Fault::Units { have, need },
+            PlanFault::OutOfMemory => return Fault::OutOfMemory,
+            PlanFault::Cycle(line) => (line, ScriptWhy::Cycle),
+            PlanFault::OpenPort(line, _) => (line, ScriptWhy::OpenPort),
+            PlanFault::PortTwice(line) => (line, ScriptWhy::PortTwice),
+            PlanFault::TooMany(line) => (line, ScriptWhy::TooManyBlocks),
+            PlanFault::Wrong(line) => (line, ScriptWhy::Wrong),
+            PlanFault::Small(line) => (line, ScriptWhy::Small),
+            PlanFault::Differ(line) => (line, ScriptWhy::Differ),
+        };
+        Fault::Script { line, why }
     }
 }

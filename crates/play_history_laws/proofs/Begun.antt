@@ -13,7 +13,7 @@ use Rattle.play_history_laws.specs.Order.{Cursor, nothing_asked}
 use Rattle.play_history_laws.proofs.Keeping.{at_one}
 use Rattle.play_history_laws.specs.Askings.{asking_of}
 use Rattle.play_history_laws.specs.Requests.{is_request}
-use Rattle.play_history_laws.proofs.ListFronts.{times, times_cut}
+use Rattle.play_result_laws.proofs.ListFronts.{times, times_cut}
 use Rattle.play_history_laws.proofs.InTime.{IsRequesting, requests_rest}
 
 -- of the links whose changes were begun

@@ -31,7 +31,7 @@ use Rattle.play_history_laws.specs.Faults.{IsFaultHistory, IsFaulty}
 use Rattle.play_history_laws.proofs.Accepting.{accepts, not_declined}
 use Rattle.play_history_laws.proofs.FaultAsking.{asked_so}
 use Rattle.play_history_laws.specs.Behind.{IsOld}
-use Rattle.play_history_laws.proofs.ViewChanges.{old_changes}
+use Rattle.play_history_laws.proofs.Standing.{old_changes}
 use Rattle.play_history_laws.proofs.ViewsKept.{old_changed}
 use Rattle.play_history_laws.specs.Askings.{IsPlanHistory, read_of}
 use Rattle.play_history_laws.proofs.Answered.{change_is}

@@ -1,22 +1,19 @@
 -- A conductor that hears old views knows no more than is so.
-use Rattle.std.proofs.Common.{◌≡◌, inl, inr, ℕ, ◌<◌, ◌≤◌, Bool, true, false, ◌&&◌, ◌||◌, List, length, slice_get, Option, Some, None, refl, sym, ◌∙◌, ap, subst, arith}
+use Rattle.std.proofs.Common.{◌≡◌, inl, inr, ℕ, ◌<◌, ◌≤◌, Bool, true, false, ◌||◌, List, length, slice_get, Option, Some, None, refl, sym, ◌∙◌, ap}
 use Rattle.std.specs.Prelude.{MatchOption}
 use Rattle.std.proofs.lemmas.Bool.{or_cases}
 use Rattle.omx_types.specs.declared.command.Completion.TheVariants as completions
 use Rattle.il_machine.specs.declared.answer.Progress.{Progress}
 use Rattle.il_machine.specs.World.{World}
-use Rattle.machine_laws.proofs.Accepting.{both_of}
-use Rattle.machine_laws.proofs.Finding.{either}
 use Rattle.conductor.specs.declared.phase.LateLink.{LateLink}
-use Rattle.conductor.specs.Hearing.{ConductorValue, heard as hears_all, heard_late, heard_lates, heard_view, heard_views, is_disable, is_enable, tells_disable, tells_enable}
-use Rattle.conductor.specs.Phases.{is_changed}
+use Rattle.conductor.specs.Hearing.{ConductorValue, heard as hears_all, heard_late, heard_view, heard_views, is_disable, is_enable, tells_disable, tells_enable}
 use Rattle.play_model.specs.Changes.{port_at}
 use Rattle.play_model.specs.Play.{Play, component_at}
 use Rattle.play_world_laws.specs.Cast.{components_of, giver_of, script_place, taker_of}
 use Rattle.play_plan_laws.proofs.Conducting.{view_at, views_many}
 use Rattle.play_world_laws.specs.PlayWorlds.{IsPlayWorld, PlayCast, port_number}
-use Rattle.play_turn_laws.specs.Conducting.{AreCarriedOut, AreLates, IsCarriedOut, IsLateAt, IsLateOf, IsToldBy}
-use Rattle.play_turn_laws.proofs.Hearing.{at_map, changed_more, disable_is, enable_is, giver_within, map_there, of_same, one_link, or_true, taker_within}
+use Rattle.play_turn_laws.specs.Conducting.{IsLateAt, IsLateOf, IsToldBy}
+use Rattle.play_turn_laws.proofs.Hearing.{carried_heard, disable_is, enable_is, giver_within, lates_heard, taker_within}
 use Rattle.play_history_laws.specs.Behind.{AreOldViews, IsBehind, IsOld}
 
 module _ (x : PlayCast) (recent : ℕ) (p : Play) (w : World) (W : IsPlayWorld x recent p w) (told : List Progress)
@@ -44,7 +41,7 @@ module _ (x : PlayCast) (recent : ℕ) (p : Play) (w : World) (W : IsPlayWorld x
     flag : (old now : Bool) (P : Type 0) → (old ≡ true → P) → (now ≡ true → P) → (old || now) ≡ true → P
     flag old now P f g h = elim (or_cases old now h) [ inl t ↦ f t | inr t ↦ g t ]
 
-    knows : IsToldBy (p.change l) next
+    pub knows : IsToldBy (p.change l) next
     knows =
         let G = giver_told in
         let R = taker_told in
@@ -55,58 +52,22 @@ module _ (x : PlayCast) (recent : ℕ) (p : Play) (w : World) (W : IsPlayWorld x
           input_enabled = λ t. flag late.input_enabled (tells_enable late.input (slice_get told late.taker)) _ (K.told).input_enabled (λ u. enabled_so false R.0 late.input its.input R.2 (ap (tells_enable late.input) (sym R.1) ∙ u)) t;
         }
 
-    pub heard_at : IsLateAt x.cast recent p l next
-    heard_at = record {
-      of_link = of_same x.cast l late next refl refl refl its;
-      way = K.way;
-      told = knows;
-      disabled = λ m.
-          let b = both_of late.output_disabled late.input_disabled (K.disabled m) in
-          let o : next.output_disabled ≡ true = or_true late.output_disabled _ (inl b.0) in
-          let i : next.input_disabled ≡ true = or_true late.input_disabled _ (inl b.1) in
-          λ j. o j && i j;
-      latest = λ m f. either (is_changed late)
-          (λ t.
-          let g = changed_more late next refl (λ e. or_true late.output_enabled _ (inl e)) (λ e. or_true late.input_enabled _ (inl e)) t in
-          absurd cc)
-          (λ u. K.latest m u);
-    }
-
-  pub lates_heard : (lates : List LateLink) → AreLates x.cast recent p lates → AreLates x.cast recent p (heard_lates told lates)
-  lates_heard lates L = record {
-    each = λ i late e. let a = at_map (heard_late told) lates i late e in let k = L.each i a.0 a.1 in (k.0, subst (λ (y : LateLink). IsLateAt x.cast recent p k.0 y) a.2 (heard_at k.0 a.0 k.1));
-    some = λ l b t. let k = L.some l b t in (k.0, heard_late told k.1, map_there (heard_late told) lates k.0 k.1 k.2, heard_at l k.1 k.3);
-    rising = λ i j a b h e f.
-        let c = at_map (heard_late told) lates i a e in
-        let d = at_map (heard_late told) lates j b f in
-        let r = L.rising i j c.0 d.0 h c.1 d.1 in
-        let m : (c.0).source ≡ a.source = ap (λ (y : LateLink). y.source) c.2 in
-        let n : (d.0).source ≡ b.source = ap (λ (y : LateLink). y.source) d.2 in
-        omega arith;
-  }
-
-  pub carried_heard : (lates : List LateLink) → AreLates x.cast recent p lates → AreCarriedOut x.cast p lates → AreCarriedOut x.cast p (heard_lates told lates)
-  carried_heard lates L D i l next e N =
-      let a = at_map (heard_late told) lates i next e in
-      let k = L.each i a.0 a.1 in
-      let same : k.0 ≡ l = one_link x.cast k.0 l a.0 next W.cast_is (k.1).of_link N (ap (λ (y : LateLink). y.source) a.2) in
-      subst (λ (n : ℕ). IsCarriedOut n (p.change l).step) (ap (λ (y : LateLink). y.steps) a.2) (D i l a.0 a.1 (subst (λ (m : ℕ). IsLateOf x.cast m a.0) same (k.1).of_link))
-
 -- ---- the conductor
 
 pub old_hears : (x : PlayCast) (recent : ℕ) (p : Play) (w : World) (W : IsPlayWorld x recent p w) (value : ConductorValue) (views : List (Option Progress)) → length views ≡ length value.told → AreOldViews x.cast p views → IsOld x.cast recent p value → IsOld x.cast recent p (hears_all value views)
 old_hears x recent p w W value views many V O =
     let C = O.conducting in
     let told : List Progress = heard_views value.told views in
+    let its = knows x recent p w W told old_told in
     record {
       conducting = record {
         sinks = record { many = (C.sinks).many; each = (C.sinks).each };
         many = views_many value.told views (sym many) ∙ C.many;
-        lates = lates_heard x recent p w W told old_told value.lates C.lates;
+        lates = lates_heard x recent p w W told its value.lates C.lates;
         sends = C.sends;
       };
       told = old_told;
-      carried = carried_heard x recent p w W told old_told value.lates C.lates O.carried;
+      carried = carried_heard x recent p w W told its value.lates C.lates O.carried;
     }
   where
     behind : (c : ℕ) (old : Progress) (view : Option Progress) → IsBehind x.cast p c old → MatchOption view (Unit {0}) (IsBehind x.cast p c) → IsBehind x.cast p c (heard_view old view)

@@ -1,24 +1,13 @@
 -- Requests that go on stay in time: the askings that were begun, and what is left of the last.
-use Rattle.std.proofs.Common.{◌≡◌, ◌⊎◌, inl, inr, ℕ, zero, suc, ◌+◌, ◌<◌, ◌≤◌, true, false, List, [], ◌∷◌, ◌++◌, take, length, slice_get, Some, refl, sym, ◌∙◌, ap, subst, append-nil, append_assoc, length-append, arith}
-use Rattle.std.specs.Prelude.{flat_map, get_or}
-use Rattle.std.proofs.lemmas.Bool.{cases_lt}
-use Rattle.std.proofs.lemmas.List.{length-map, take-append-le, take_all}
-use Rattle.std.proofs.lemmas.List.Concat.{flat_map-append}
-use Rattle.std.proofs.lemmas.List.Folds.{length-flat_map-take}
-use Rattle.std.proofs.lemmas.Option.{slice_get_within}
+use Rattle.std.proofs.Common.{◌≡◌, ◌+◌, ◌≤◌, true, false, List, [], ◌∷◌, ◌++◌, length, refl, sym, ◌∙◌, ap, subst, append-nil, append_assoc, length-append, arith}
+use Rattle.std.specs.Prelude.{flat_map}
 use Rattle.omx_types.specs.declared.handle.Handle.{Handle}
-use Rattle.omx_types.specs.declared.state.State.TheVariants.{Loaded, Idle, Executing}
 use Rattle.il_machine.specs.Acts.{Act, Reply}
 use Rattle.play_build_laws.specs.Assembly.{Assembly}
-use Rattle.play_build_laws.proofs.Places.{pushed_at}
-use Rattle.play_result_laws.specs.Asked.{Asking, BackToIdle, Disabling, Enabling, HasCause, IsDone, Retuning, ToExecuting, ToIdle, ToLoaded, acts_of, sending}
+use Rattle.play_result_laws.specs.Asked.{Asking, HasCause, IsDone, acts_of}
 use Rattle.play_history_laws.specs.Requests.{AreInTime, is_request, requests}
-use Rattle.play_history_laws.proofs.ListFronts.{cut_before, cut_last, kept_at, kept_not, kept_too, last_at}
-
--- an act that is requested after these steps begins an asking in time, if it begins one
-abbrev pub IsNowInTime : Assembly → List Handle → List Asking → List (Act × Reply) → Type 0
-IsNowInTime s handles list steps = (k : ℕ) (one next : Asking) → slice_get list k ≡ Some one → slice_get list (k + 1) ≡ Some next
-    → requests steps ≡ flat_map (acts_of s handles) (take (k + 1) list) → IsDone s one steps × HasCause s next steps
+use Rattle.play_result_laws.proofs.InTime.{IsNowBy, all, all_more, first_in_time, rest_in_time, timely_asked, timely_beyond, timely_unasked}
+use Rattle.play_result_laws.proofs.ListFronts.{kept_not, kept_too}
 
 -- All of these was requested but what is left of the last, of which some was.
 pub record IsRequesting (s : Assembly) (handles : List Handle) (list : List Asking) (left steps : List (Act × Reply)) : Type 0 where
@@ -27,112 +16,6 @@ pub record IsRequesting (s : Assembly) (handles : List Handle) (list : List Aski
   pub last : 1 ≤ length left → (front : List Asking) × (one : Asking) × (list ≡ front ++ one ∷ []) × (length left + 1 ≤ length (acts_of s handles one))
 
 module _ (s : Assembly) (handles : List Handle) where
-  abbrev all : List Asking → List (Act × Reply)
-  all list = flat_map (acts_of s handles) list
-
-  all_more : (list : List Asking) (next : Asking) → all (list ++ next ∷ []) ≡ all list ++ acts_of s handles next
-  all_more list next = flat_map-append (acts_of s handles) list (next ∷ []) ∙ ap (λ (ys : List (Act × Reply)). all list ++ ys) (append-nil (acts_of s handles next))
-
-  -- where there is a component, something is asked each time
-  some_asked : 1 ≤ length handles → (x : Asking) → 1 ≤ length (acts_of s handles x)
-  some_asked n ToIdle = let m = length-map handles (sending Idle) in omega arith
-  some_asked n ToExecuting = let m = length-map handles (sending Executing) in omega arith
-  some_asked n BackToIdle = let m = length-map handles (sending Idle) in omega arith
-  some_asked n ToLoaded = let m = length-map handles (sending Loaded) in omega arith
-  some_asked n (Disabling l) = omega arith
-  some_asked n (Retuning l) = omega arith
-  some_asked n (Enabling l) = omega arith
-
-  -- ---- one step more
-
-  timely_unasked : (list : List Asking) (xs : List (Act × Reply)) (x : Act × Reply) → is_request x ≡ false → AreInTime s handles list xs → AreInTime s handles list (xs ++ x ∷ [])
-  timely_unasked list xs x u T = λ k one next before after step a b e t h. elim (cut_last xs before after x step e) [
-    | inl c ↦ let z : true ≡ false = sym t ∙ (ap is_request c.1 ∙ u) in absurd cc
-    | inr c ↦ T k one next before c.0 step a b c.1 t h
-  ]
-
-  timely_asked : (list : List Asking) (xs : List (Act × Reply)) (x : Act × Reply) → IsNowInTime s handles list xs → AreInTime s handles list xs → AreInTime s handles list (xs ++ x ∷ [])
-  timely_asked list xs x D T = λ k one next before after step a b e t h. elim (cut_last xs before after x step e) [
-    | inl c ↦ subst (λ (ys : List (Act × Reply)). IsDone s one ys × HasCause s next ys) (sym c.0) (D k one next a b (ap requests (sym c.0) ∙ h))
-    | inr c ↦ T k one next before c.0 step a b c.1 t h
-  ]
-
-  -- ---- more askings
-
-  -- what was requested before a request is less than all of it
-  fewer : (list : List Asking) (left xs before after : List (Act × Reply)) (step : Act × Reply) → requests xs ++ left ≡ all list → xs ≡ before ++ step ∷ after → is_request step ≡ true → suc (length (requests before)) ≤ length (all list)
-  fewer list left xs before after step made e t =
-      let split : all list ≡ (requests before ++ step ∷ requests after) ++ left = sym made ∙ ap (λ (ys : List (Act × Reply)). ys ++ left) (ap requests e ∙ kept_at is_request before after step t) in
-      let n = ap length split in
-      let m = length-append (requests before ++ step ∷ requests after) left in
-      let o = length-append (requests before) (step ∷ requests after) in
-      omega (arith, n, m, o)
-
-  taken_more : (ls ms : List Asking) (n : ℕ) → length ls ≤ n → length (all ls) ≤ length (all (take n (ls ++ ms)))
-  taken_more [] ms n b = omega arith
-  taken_more (l ∷ ls) ms zero b = absurd (omega arith)
-  taken_more (l ∷ ls) ms (suc n) b =
-      let r = taken_more ls ms n (omega arith) in
-      let c = length-append (acts_of s handles l) (all ls) in
-      let d = length-append (acts_of s handles l) (all (take n (ls ++ ms))) in
-      omega (arith, r, c, d)
-
-  -- further askings change nothing of what was asked
-  pub timely_beyond : (list more : List Asking) (left xs : List (Act × Reply)) → requests xs ++ left ≡ all list → AreInTime s handles list xs → AreInTime s handles (list ++ more) xs
-  timely_beyond list more left xs made T = λ k one next before after step a b e t h. by k one next before after step a b e t h (cases_lt (k + 1) (length list))
-    where
-      by : (k : ℕ) (one next : Asking) (before after : List (Act × Reply)) (step : Act × Reply) → slice_get (list ++ more) k ≡ Some one → slice_get (list ++ more) (k + 1) ≡ Some next → xs ≡ before ++ step ∷ after → is_request step ≡ true
-          → requests before ≡ all (take (k + 1) (list ++ more)) → ((k + 1 < length list) ⊎ (length list ≤ k + 1)) → IsDone s one before × HasCause s next before
-      by k one next before after step a b e t h (inl c) =
-          T k one next before after step (cut_before list more k one a (omega (arith, c))) (cut_before list more (k + 1) next b c) e t (h ∙ ap all (take-append-le (k + 1) list more (omega (arith, c))))
-      by k one next before after step a b e t h (inr c) =
-          let few = fewer list left xs before after step made e t in
-          let long = taken_more list more (k + 1) c in
-          let z = ap length h in
-          absurd (omega (arith, few, long, z))
-
-  -- ---- one asking more
-
-  module _ (list : List Asking) (next : Asking) (xs : List (Act × Reply)) where
-    abbrev more : List Asking
-    more = list ++ next ∷ []
-
-    -- a place below the last one
-    earlier : (k : ℕ) → k + 1 ≤ length list → take (k + 1) more ≡ take (k + 1) list
-    earlier k b = take-append-le (k + 1) list (next ∷ []) b
-
-    -- its first act is in time where what was asked before is done and it has its cause
-    first_in_time : 1 ≤ length handles → requests xs ≡ all list → ((one : Asking) (front : List Asking) → list ≡ front ++ one ∷ [] → IsDone s one xs × HasCause s next xs) → IsNowInTime s handles more xs
-    first_in_time n whole D = λ k one nx a b h. elim (pushed_at list (k + 1) next nx b) [
-      | inl f ↦
-          let inside = slice_get_within list (k + 1) nx f in
-          let short = length-flat_map-take (acts_of s handles) list (k + 1) next inside in
-          let some = some_asked n (get_or list (k + 1) next) in
-          let same = ap length (sym whole ∙ (h ∙ ap all (earlier k (omega (arith, inside))))) in
-          absurd (omega (arith, short, some, same))
-      | inr f ↦ elim (pushed_at list k next one a) [
-        | inr g ↦ let q = f.0 in let r = g.0 in absurd (omega (arith, q, r))
-        | inl g ↦
-            let q = f.0 in
-            let last = last_at list k one g (omega (arith, q)) in
-            subst (λ (y : Asking). IsDone s one xs × HasCause s y xs) (sym f.1) (D one last.0 last.1)
-      ]
-    ]
-
-    -- each further one needs no time of its own
-    rest_in_time : length (all list) + 1 ≤ length (requests xs) → IsNowInTime s handles more xs
-    rest_in_time n = λ k one nx a b h. elim (pushed_at list (k + 1) next nx b) [
-      | inl f ↦
-          let inside = slice_get_within list (k + 1) nx f in
-          let short = length-flat_map-take (acts_of s handles) list (k + 1) next inside in
-          let same = ap length (h ∙ ap all (earlier k (omega (arith, inside)))) in
-          absurd (omega (arith, n, short, same))
-      | inr f ↦
-          let q = f.0 in
-          let same = ap length (h ∙ ap all (earlier k (omega (arith, q)) ∙ take_all (k + 1) list (omega (arith, q)))) in
-          absurd (omega (arith, n, same))
-    ]
-
   -- ---- what is requested goes on
 
   -- nothing is yet
@@ -143,11 +26,11 @@ module _ (s : Assembly) (handles : List Handle) where
   pub requests_rest : (list : List Asking) (left xs : List (Act × Reply)) (x : Act × Reply) → is_request x ≡ false → IsRequesting s handles list left xs → IsRequesting s handles list left (xs ++ x ∷ [])
   requests_rest list left xs x u A = record {
     made = ap (λ (ys : List (Act × Reply)). ys ++ left) (kept_not is_request xs x u) ∙ A.made;
-    timely = timely_unasked list xs x u A.timely;
+    timely = timely_unasked s handles is_request list xs x u A.timely;
     last = A.last;
   }
 
-  made_on : (list : List Asking) (x : Act × Reply) (left xs : List (Act × Reply)) → is_request x ≡ true → requests xs ++ x ∷ left ≡ all list → requests (xs ++ x ∷ []) ++ left ≡ all list
+  made_on : (list : List Asking) (x : Act × Reply) (left xs : List (Act × Reply)) → is_request x ≡ true → requests xs ++ x ∷ left ≡ all s handles list → requests (xs ++ x ∷ []) ++ left ≡ all s handles list
   made_on list x left xs t m = ap (λ (ys : List (Act × Reply)). ys ++ left) (kept_too is_request xs x t) ∙ (append_assoc (requests xs) (x ∷ []) left ∙ m)
 
   -- the next act of the last one is requested
@@ -155,13 +38,13 @@ module _ (s : Assembly) (handles : List Handle) where
   requests_on list x left xs t A =
       let L = A.last (omega arith) in
       let few = L.3 in
-      let n = ap length (A.made ∙ (ap all L.2 ∙ all_more L.0 L.1)) in
+      let n = ap length (A.made ∙ (ap (all s handles) L.2 ∙ all_more s handles L.0 L.1)) in
       let m = length-append (requests xs) (x ∷ left) in
-      let q = length-append (all L.0) (acts_of s handles L.1) in
-      let now : IsNowInTime s handles list xs = subst (λ (ls : List Asking). IsNowInTime s handles ls xs) (sym L.2) (rest_in_time L.0 L.1 xs (omega (arith, n, m, q, few))) in
+      let q = length-append (all s handles L.0) (acts_of s handles L.1) in
+      let now : IsNowBy is_request s handles list xs = subst (λ (ls : List Asking). IsNowBy is_request s handles ls xs) (sym L.2) (rest_in_time s handles is_request L.0 L.1 xs (omega (arith, n, m, q, few))) in
       record {
         made = made_on list x left xs t A.made;
-        timely = timely_asked list xs x now A.timely;
+        timely = timely_asked s handles is_request list xs x now A.timely;
         last = λ b. (L.0, L.1, L.2, omega (arith, few));
       }
 
@@ -170,10 +53,10 @@ module _ (s : Assembly) (handles : List Handle) where
       → ((one : Asking) (front : List Asking) → list ≡ front ++ one ∷ [] → IsDone s one xs × HasCause s next xs)
       → IsRequesting s handles list [] xs → IsRequesting s handles (list ++ next ∷ []) left (xs ++ x ∷ [])
   requests_begin list next x left xs t e some D A =
-      let whole : requests xs ≡ all list = sym (append-nil (requests xs)) ∙ A.made in
-      let made : requests xs ++ x ∷ left ≡ all (list ++ next ∷ []) = ap (λ (ys : List (Act × Reply)). ys ++ x ∷ left) whole ∙ (ap (λ (ys : List (Act × Reply)). all list ++ ys) (sym e) ∙ sym (all_more list next)) in
+      let whole : requests xs ≡ all s handles list = sym (append-nil (requests xs)) ∙ A.made in
+      let made : requests xs ++ x ∷ left ≡ all s handles (list ++ next ∷ []) = ap (λ (ys : List (Act × Reply)). ys ++ x ∷ left) whole ∙ (ap (λ (ys : List (Act × Reply)). all s handles list ++ ys) (sym e) ∙ sym (all_more s handles list next)) in
       record {
         made = made_on (list ++ next ∷ []) x left xs t made;
-        timely = timely_asked (list ++ next ∷ []) xs x (first_in_time list next xs some whole D) (timely_beyond list (next ∷ []) [] xs A.made A.timely);
+        timely = timely_asked s handles is_request (list ++ next ∷ []) xs x (first_in_time s handles is_request list next xs some whole D) (timely_beyond s handles is_request list (next ∷ []) [] xs A.made A.timely);
         last = λ b. (list, next, refl, (let n = ap length e in omega (arith, n)));
       }

@@ -30,12 +30,10 @@ pub mod Telling
 pub mod Behind
 pub mod Hearing
 pub mod Standing
-pub mod ViewChanges
 pub mod ViewsKept
 pub mod PlanOpening
 pub mod Texts
 pub mod Askings
-pub mod ListFronts
 pub mod Places
 pub mod RequestWalk
 pub mod Requested

@@ -23,12 +23,13 @@ use Rattle.play_history_laws.specs.Histories.{IsUnasked}
 use Rattle.play_history_laws.specs.Order.{Cursor, nothing_asked}
 use Rattle.play_history_laws.specs.Faults.{IsFailedStep, IsFaultHistory}
 use Rattle.play_history_laws.specs.Askings.{IsPlanHistory}
-use Rattle.play_history_laws.specs.Requests.{AreInTime, AreRequested, IsOrdered, is_request_act, requests}
+use Rattle.play_history_laws.specs.Requests.{AreInTime, AreRequested, IsOrdered, is_request, is_request_act, requests}
 use Rattle.play_history_laws.proofs.Askings.{accepted_next, many}
 use Rattle.play_history_laws.proofs.Begun.{AreBegun, HasAsked, IsAskedIn, IsAskedTo, begun_by, begun_of, changes, front_at, left_of, still_asked}
 use Rattle.play_history_laws.proofs.Requesting.{one_more_asked}
-use Rattle.play_history_laws.proofs.ListFronts.{none_left, times}
-use Rattle.play_history_laws.proofs.InTime.{IsRequesting, requests_none, timely_beyond}
+use Rattle.play_result_laws.proofs.ListFronts.{none_left, times}
+use Rattle.play_history_laws.proofs.InTime.{IsRequesting, requests_none}
+use Rattle.play_result_laws.proofs.InTime.{timely_beyond}
 use Rattle.play_history_laws.proofs.Places.{late_is}
 use Rattle.play_history_laws.proofs.Requested.{history_on}
 
@@ -178,7 +179,7 @@ module _ (plan : PlanValue) (files : PlayFiles) (handles : List Handle) where
   extended links list more left steps late A e = record {
     late = late;
     made = sym (append_assoc (requests steps) left (all more)) ∙ (ap (λ (ys : List (Act × Reply)). ys ++ all more) A.made ∙ (sym (flat_map-append (acts_of s handles) list more) ∙ ap all e));
-    timely = subst (λ (ls : List Asking). AreInTime s handles ls steps) e (timely_beyond s handles list more left steps A.made A.timely);
+    timely = subst (λ (ls : List Asking). AreInTime s handles ls steps) e (timely_beyond s handles is_request list more left steps A.made A.timely);
   }
 
   -- what comes behind so much of a change

@@ -20,7 +20,7 @@ use Rattle.play_result_laws.specs.Asked.{AreLateLinks, Asking, BackToIdle, HasCa
 use Rattle.play_history_laws.specs.Order.{Cursor, nothing_asked}
 use Rattle.play_history_laws.specs.Askings.{asking_of}
 use Rattle.play_history_laws.specs.Requests.{AreInTime, is_request, requests}
-use Rattle.play_history_laws.proofs.ListFronts.{cut_at, cut_next, cut_take, kept_too, none_behind, take_next, times, times_cut}
+use Rattle.play_result_laws.proofs.ListFronts.{cut_at, cut_next, cut_take, kept_too, none_behind, take_next, times, times_cut}
 
 late_kind : (o : Option PartLine) → is_late (kind_in o) ≡ passes_at is_late o
 late_kind None = refl

@@ -25,7 +25,7 @@ use Rattle.play_history_laws.specs.Passes.{AreUnrefused, HaveLines}
 use Rattle.play_history_laws.specs.Refused.{is_refused}
 use Rattle.play_history_laws.specs.Requests.{AreRequested, is_request, is_request_act, requests}
 use Rattle.play_history_laws.proofs.Conducted.{AreAll, asked_too, requested_all}
-use Rattle.play_history_laws.proofs.ListFronts.{all_before, all_behind, kept_at, kept_cut, none_there}
+use Rattle.play_result_laws.proofs.ListFronts.{all_before, all_behind, kept_at, kept_cut, none_there}
 
 -- ---- what was told
 

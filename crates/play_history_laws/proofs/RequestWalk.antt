@@ -20,7 +20,7 @@ use Rattle.play_history_laws.proofs.Keeping.{at_one}
 use Rattle.play_history_laws.specs.Askings.{IsPlanHistory, asking_of, read_of}
 use Rattle.play_history_laws.specs.Requests.{AreInTime, is_request, requests}
 use Rattle.play_history_laws.proofs.Askings.{changes_asked, ends_heard, link_is, many, ports_heard, sends_asked, settings_heard, states_heard}
-use Rattle.play_history_laws.proofs.ListFronts.{next_behind, next_here, times, times_cut}
+use Rattle.play_result_laws.proofs.ListFronts.{next_behind, next_here, times, times_cut}
 use Rattle.play_history_laws.proofs.Places as places
 
 -- It is asked by the cursor, and leads to the next place.

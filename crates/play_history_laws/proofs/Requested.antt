@@ -19,7 +19,7 @@ use Rattle.play_history_laws.specs.Faults.{IsAnyAllowed, IsFailedStep, IsFaultHi
 use Rattle.play_history_laws.specs.Askings.{IsPlanHistory, read_of}
 use Rattle.play_history_laws.specs.Requests.{AreRequested, is_request, is_request_act, requests}
 use Rattle.play_history_laws.proofs.Askings.{many}
-use Rattle.play_history_laws.proofs.ListFronts.{kept_at, kept_not}
+use Rattle.play_result_laws.proofs.ListFronts.{kept_at, kept_not}
 use Rattle.play_history_laws.proofs.Places as places
 use Rattle.play_history_laws.proofs.RequestWalk.{asked_next}
 

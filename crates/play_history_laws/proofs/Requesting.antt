@@ -27,7 +27,7 @@ use Rattle.play_history_laws.specs.Requests.{is_request}
 use Rattle.play_history_laws.proofs.Answered.{change_is, ends_told, ports_told, send_is, settings_told, states_told}
 use Rattle.play_history_laws.proofs.Askings.{link_is, many}
 use Rattle.play_history_laws.proofs.Conducted.{is_request_in, is_request_of}
-use Rattle.play_history_laws.proofs.ListFronts.{drop_here, last_is, none_left, none_there, times, times_cut}
+use Rattle.play_result_laws.proofs.ListFronts.{drop_here, last_is, none_left, none_there, times, times_cut}
 use Rattle.play_history_laws.proofs.InTime.{IsRequesting, requests_begin, requests_on}
 use Rattle.play_history_laws.proofs.Begun.{AreBegun, HasAsked, IsAskedIn, IsAskedTo, begun_by, begun_more, begun_of, begun_still, changes, front_at, left_of}
 

@@ -6,13 +6,14 @@ use Rattle.omx_types.specs.declared.state.State.TheVariants as states
 use Rattle.il_machine.specs.declared.answer.Progress.{Progress}
 use Rattle.il_machine.specs.World.{World}
 use Rattle.machine_laws.proofs.Accepting.{both_of, is_not}
-use Rattle.machine_laws.proofs.Every.{all_pass, none_passes}
+use Rattle.machine_laws.proofs.Every.{all_pass}
+use Rattle.conductor.specs.declared.phase.ChangeStep.{ChangeStep}
 use Rattle.conductor.specs.declared.phase.LateLink.{LateLink}
 use Rattle.conductor.specs.declared.phase.Phase.TheVariants as phases
 use Rattle.conductor.specs.Hearing.{ConductorValue}
-use Rattle.conductor.specs.Phases.{Conducts, IsSendDue, all_at, all_states, all_told, has_failed, has_half, has_settings, is_at, is_changed, is_half, is_ready, last_told as all_last_told, may_change}
+use Rattle.conductor.specs.Phases.{Conducts, IsSendDue, all_at, all_states, all_told, has_failed, has_settings, is_at, is_changed, is_ready, last_told as all_last_told, may_change}
 use Rattle.play_model.specs.Acts.{Act, CanAct, acted}
-use Rattle.play_model.specs.Changes.{Change, IsChanged, IsInOrder}
+use Rattle.play_model.specs.Changes.{Change, IsChanged}
 use Rattle.play_model.specs.Play.{IsUnbroken, Play}
 use Rattle.play_model.specs.Reached.{IsOver}
 use Rattle.play_model.proofs.Reaching.{ended_from}
@@ -20,9 +21,9 @@ use Rattle.play_world_laws.specs.Cast.{components_of, giver_of, links_of, script
 use Rattle.play_world_laws.specs.Standing.{target}
 use Rattle.play_plan_laws.proofs.Conducting.{next_state, none_of, over_at, state_next, told_stage}
 use Rattle.play_world_laws.specs.PlayWorlds.{IsPlayWorld, PlayCast}
-use Rattle.play_turn_laws.specs.Conducting.{AreLates, IsCarriedOut, IsLateAt, IsLateOf}
-use Rattle.play_turn_laws.proofs.Hearing.{both_enabled, giver_within, three_steps}
-use Rattle.play_turn_laws.proofs.Standing.{acts_none, acts_three, half_none}
+use Rattle.play_turn_laws.specs.Conducting.{AreLates, IsChangeOf, IsLateAt, IsLateOf}
+use Rattle.play_turn_laws.proofs.ChangeSteps.{KnowsChanges, change_of, unbroken}
+use Rattle.play_turn_laws.proofs.Hearing.{giver_within}
 use Rattle.play_history_laws.specs.Behind.{IsBehind, IsOld}
 use Rattle.play_history_laws.proofs.Behind.{begun_behind}
 
@@ -101,24 +102,6 @@ module _ (x : PlayCast) (recent : ℕ) (p : Play) (w : World) (W : IsPlayWorld x
     abbrev k : Change
     k = p.change l
 
-    pub answered : IsCarriedOut late.steps k.step
-    answered = V.carried i l late e K.of_link
-
-    pub ordered : IsInOrder k
-    ordered = ((W.reached).changes l (K.of_link).below).order
-
-    pub changed_is : is_changed late ≡ true → IsChanged k
-    changed_is h =
-        let b = both_enabled late h in
-        let o = (K.told).output_enabled b.0 in
-        let j = (K.told).input_enabled b.1 in
-        let m = ordered.outputs in
-        let n = ordered.inputs in
-        (acts_three late.steps k.step answered (three_steps late h), omega arith, omega arith)
-
-    pub half_is : is_half late ≡ false → (k.step ≤ 2) ⊎ IsChanged k
-    half_is f = elim (half_none late f) [ inl z ↦ inl (acts_none late.steps k.step answered z) | inr c ↦ inr (changed_is c) ]
-
     -- its source's settings were told
     pub ready_is : is_ready value.told late ≡ true → (2 ≤ k.step) × (is_changed late ≡ false)
     ready_is h =
@@ -130,10 +113,14 @@ module _ (x : PlayCast) (recent : ℕ) (p : Play) (w : World) (W : IsPlayWorld x
         let u : is_some (t.0).settings ≡ true = sym (ap has_settings s) ∙ b.0 in
         (B.settings l (record { below = O.below; given_by = refl }) O.late u, is_not (is_changed late) b.1)
 
-  pub unbroken : has_half value.lates ≡ false → IsUnbroken (x.cast).layout p
-  unbroken h l b t =
-      let r = L.some l b t in
-      half_is r.0 l r.1 r.2 r.3 (none_passes is_half value.lates r.0 r.1 h r.2)
+  abbrev knows : KnowsChanges x.cast recent p value
+  knows = record { conducting = V.conducting; carried = V.carried; running = where_may; ready = ready_is }
+
+  pub old_changes : (next : ConductorValue) (component : ℕ) (step : ChangeStep) → Conducts value (phases.Change component step) next → (l : ℕ) × IsChangeOf x.cast p component step next l
+  old_changes next component step C =
+      let K = C.1 in
+      let l = (L.each K.number K.late (K.due).there).0 in
+      (l, subst (λ (y : ConductorValue). IsChangeOf x.cast p component step y l) (sym K.goes_on) (change_of x recent p w W value knows K.number K.late step K.due component K.its_source))
 
   -- ---- the next state
 
@@ -157,7 +144,7 @@ module _ (x : PlayCast) (recent : ℕ) (p : Play) (w : World) (W : IsPlayWorld x
           more = n.0;
           all = last_all D.last;
           ends = all_ended;
-          changes = λ two. all_changed two (all_ended two) (unbroken D.none_half);
+          changes = λ two. all_changed two (all_ended two) (unbroken x recent p w W value knows D.none_half);
         },
         n.1,
       )

@@ -34,7 +34,7 @@ use Rattle.play_plan_laws.specs.Limits.{IsLawfulFlow, IsLawfulHead, IsWide}
 use Rattle.play_plan_laws.proofs.Limits.{flows_lawful, given_flow, head_there, like_first, same_channels, same_rate, sized_form}
 use Rattle.play_plan_laws.proofs.Links.{fed_before, fed_kind, fits_at, fits_joint, incoming_is, input_linked, no_both, one_input, one_output, one_turn, output_linked, ports_of_joint, some_input, there, turn_of}
 use Rattle.play_build_laws.specs.Assembly.{AreAlike, IsEndOf, IsLawful, IsLawfulEnd, IsLawfulFile, definition_of, factors_in as factor_count}
-use Rattle.play_build_laws.proofs.Accepted.{format_itself}
+use Rattle.machine_laws.proofs.Fitting.{format_itself}
 use Rattle.play_plan_laws.specs.Assemblies.{IsReady, PlayFiles, assembly_of, end_of, factors_in, file_at, file_of, is_late_link, kind_in, opening_format, source_file}
 
 -- ---- formats

@@ -45,7 +45,7 @@ use Rattle.play_plan_laws.proofs.Limits.{head_there, in_limits}
 use Rattle.play_build_laws.specs.Assembly.{Assembly, component_at}
 use Rattle.play_build_laws.specs.Stages.{AreBuilt, IsStage, Joining, file_by, progress_of, setting_of, state_by, stream_by}
 use Rattle.play_build_laws.proofs.Places.{from_mapped, stream_found}
-use Rattle.play_build_laws.proofs.Accepted.{format_itself}
+use Rattle.machine_laws.proofs.Fitting.{format_itself}
 use Rattle.play_build_laws.proofs.Filing.{stream_component}
 use Rattle.play_build_laws.proofs.Standing.{port_at_end}
 use Rattle.play_plan_laws.specs.Assemblies.{IsReady, PlayFiles, assembly_of, end_of, file_at, file_of, is_late_link, kind_in, opening_format, play_cast_of}

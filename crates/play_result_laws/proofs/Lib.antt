@@ -1,3 +1,5 @@
+pub mod ListFronts
+pub mod InTime
 pub mod NoActs
 pub mod OwnNames
 pub mod OneLog

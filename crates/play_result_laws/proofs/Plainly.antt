@@ -28,7 +28,7 @@ use Rattle.play_plan_laws.specs.Assemblies.{IsReady, PlayFiles}
 use Rattle.play_plan_laws.proofs.Lawful.{link_is, same_part}
 use Rattle.play_result_laws.specs.Files.{AreSamples}
 use Rattle.play_stream_laws.proofs.Padding.{plain_padded}
-use Rattle.play_stream_laws.proofs.Plain.{plain_same}
+use Rattle.audio_parts.proofs.Plain.{plain_same}
 use Rattle.play_stream_laws.specs.Contents.{network_of}
 use Rattle.play_stream_laws.proofs.Bounded.{network_bounded, source_below}
 use Rattle.play_result_laws.specs.Contents.{contents_of, samples_by, streams_of}

@@ -36,7 +36,7 @@ use Rattle.play_graph.specs.Graphs.{kept_of}
 use Rattle.play_run.specs.Playing.{HaveNoWork, IsPlaying, PlayingValue, cast, layout_of}
 use Rattle.play_run.specs.Opening.{IsOpeningGraph}
 use Rattle.play_run.proofs.Counting.{few_acts}
-use Rattle.play_run.proofs.Timely.{none_there}
+use Rattle.play_result_laws.proofs.ListFronts.{none_there}
 use Rattle.play_run.proofs.Streaming.{OpensOn}
 
 -- ---- the graph that was made

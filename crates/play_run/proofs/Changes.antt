@@ -28,13 +28,14 @@ use Rattle.play_turn_laws.proofs.Hearing.{one_link}
 use Rattle.play_log.specs.Entries.{steps_of}
 use Rattle.play_result_laws.specs.Asked.{Asking, Disabling, Enabling, HasCause, IsDone, Retuning, ToExecuting, ToIdle, acts_of as asked_acts, change_of, told_by, tuned}
 use Rattle.play_graph.specs.declared.link_end.End.TheVariants.{Output}
+use Rattle.play_result_laws.proofs.ListFronts.{last_is}
 use Rattle.play_run.specs.Asking.{AreChanges, Asks, IsAsking, answered, asking_of, handles_of}
 use Rattle.play_run.specs.Playing.{IsPlaying, PlayingValue, cast, layout_of}
 use Rattle.play_run.proofs.Asked.{carried_once, counted, last_or}
 use Rattle.play_run.proofs.Ends.{end_place, end_there}
 use Rattle.play_run.proofs.Heard.{settings_at}
 use Rattle.play_run.proofs.Timely.{asking_begins}
-use Rattle.play_run.proofs.Timing.{both_done, changes_done, last_is, rest_none}
+use Rattle.play_run.proofs.Timing.{both_done, changes_done, rest_none}
 
 -- ---- steps
 

@@ -100,11 +100,11 @@ module _ {S K : Type 0} (reads : SourceGhosts S) (writes : SinkGhosts K) (plan :
     were_there = subst (λ (y : PlanValue). AreGraphFiles first.graph (length y.parts) entries) (sym is_plan) were
 
     pub files_same : AreSameFiles (seen reads writes entries) (seen reads writes now)
-    files_same = are_same reads writes first x entries now many_first many_last were_there are stayed
+    files_same = are_same reads writes (length x.plan.parts) first.graph x.graph entries now were_there are many_first many_last stayed
 
     pub fault_cause : (stop : Stop) → HasBrokenOff x stop → StopShows (ObjectShows reads.size reads.ends reads.offset reads.faults writes.faults) first x stop
         → IsRunCause (seen reads writes entries) (seen reads writes now) (fault_of stop)
-    fault_cause (stops.Failed failure) F shows = is_cause reads writes first x entries now many_first many_last were_there are failure F.there shows
+    fault_cause (stops.Failed failure) F shows = is_cause reads writes (length x.plan.parts) first.graph x.graph entries now were_there are failure.component failure.fault F.there shows
     fault_cause stops.OutOfMemory B shows = tt
 
     module _ (written : Always (kept_of x.graph) (TellWritten writes.told x.graph)) (given : PlayFiles) (R : IsReady plan given) (O : AreFilesOf plan given (seen reads writes entries)) where
@@ -159,7 +159,7 @@ module _ {S K : Type 0} (reads : SourceGhosts S) (writes : SinkGhosts K) (plan :
           (inr (failed_left reads writes first x entries now many_first many_last were_there are stayed written failure F sound
           (moved IsReady plan x.plan given f (sym is_plan) (sym with) R)
           (moved (λ y z. AreOffered y z (offered reads.offset reads.size reads.told writes.told) entries) plan x.plan given f (sym is_plan) (sym with) offers)
-          (does_show reads writes first x entries now many_first many_last were_there are failure F.there shows)))
+          (does_show reads writes (length x.plan.parts) first.graph x.graph entries now were_there are failure.component failure.fault F.there shows)))
       stop_left stops.OutOfMemory (p, Y, with) shows sound =
           let f = Y.standing.files in
           moved (λ y z. LeavesBehind y z (seen reads writes entries) (seen reads writes now) runs.OutOfMemory) x.plan plan f given is_plan with

@@ -105,7 +105,7 @@ module _ {S K : Type 0} (reads : SourceGhosts S) (writes : SinkGhosts K)
         took = λ place sink I.
             let H = here p Y place sink I in (
               H.stream.written,
-              has_taken reads writes first x entries now many many_now were are stayed Z.files offers Z.opening Z.world Z.begins.opens Z.told (written Z.world Z.stands) place sink I H.component H.named H.work H.stream H.found,
+              has_taken reads writes (length x.plan.parts) first.graph x.graph entries now were are many many_now stayed x.plan Z.files refl offers Z.opening Z.world Z.begins.opens Z.told (written Z.world Z.stands) place sink I H.component H.named H.work H.stream H.found,
               is_there (stream_of place Z.world) (λ (s : Stream). s.written ≡ H.stream.written) H.stream H.found refl,
             );
       }
@@ -118,7 +118,7 @@ module _ {S K : Type 0} (reads : SourceGhosts S) (writes : SinkGhosts K)
       let H = here p Y place sink I in
       let streams = Z.streams (contents_of x.plan Z.files samples) (opening_contents x.plan Z.files samples Z.opening ready A Z.begins.opens) (opening_new x.plan Z.files samples Z.opening ready A Z.begins.opens) in (
         H.stream.written,
-        has_taken reads writes first x entries now many many_now were are stayed Z.files offers Z.opening Z.world Z.begins.opens Z.told (written Z.world Z.stands) place sink I H.component H.named H.work H.stream H.found,
+        has_taken reads writes (length x.plan.parts) first.graph x.graph entries now were are many many_now stayed x.plan Z.files refl offers Z.opening Z.world Z.begins.opens Z.told (written Z.world Z.stands) place sink I H.component H.named H.work H.stream H.found,
         of_stream Z.world place (λ (s : Stream). IsFrontOf (sink_text x.plan samples place) s.written) H.stream H.found
             (texts_fronts x.plan Z.files samples ready A Z.recent p Z.world (Z.conducted).play streams place sink I),
       )
@@ -136,7 +136,7 @@ module _ {S K : Type 0} (reads : SourceGhosts S) (writes : SinkGhosts K)
         let Z = Y.standing in
         let H = here p Y place sink I in (
           H.stream.written,
-          has_taken reads writes first x entries now many many_now were are stayed given offers Z.opening w Z.begins.opens Z.told (written w Z.stands) place sink I H.component H.named H.work H.stream H.found,
+          has_taken reads writes (length x.plan.parts) first.graph x.graph entries now were are many many_now stayed x.plan given refl offers Z.opening w Z.begins.opens Z.told (written w Z.stands) place sink I H.component H.named H.work H.stream H.found,
           is_there (stream_of place w) (λ (s : Stream). s.written ≡ H.stream.written) H.stream H.found refl,
           λ samples A.
               let streams = Z.streams (contents_of x.plan given samples) (opening_contents x.plan given samples Z.opening ready A Z.begins.opens) (opening_new x.plan given samples Z.opening ready A Z.begins.opens) in
@@ -174,7 +174,7 @@ module _ {S K : Type 0} (reads : SourceGhosts S) (writes : SinkGhosts K)
         let fronts = F.fronts (contents_of x.plan F.files samples) (opening_contents x.plan F.files samples F.opening ready A F.begins.opens) (opening_new x.plan F.files samples F.opening ready A F.begins.opens)
         (streams_of x.plan samples) (plan_plain x.plan F.files samples ready A (λ l. false)) in (
           H.stream.written,
-          has_taken reads writes first x entries now many many_now were are stayed F.files offers F.opening F.world F.begins.opens F.told (written F.world F.stands) place sink I H.component H.named H.work H.stream H.found,
+          has_taken reads writes (length x.plan.parts) first.graph x.graph entries now were are many many_now stayed x.plan F.files refl offers F.opening F.world F.begins.opens F.told (written F.world F.stands) place sink I H.component H.named H.work H.stream H.found,
           of_stream F.world place (λ (s : Stream). IsFrontOf (sink_text x.plan samples place) s.written) H.stream H.found
               (texts_failed x.plan F.files samples ready A F.recent F.play F.before F.world F.done F.played F.finishes fronts place sink I),
         )
@@ -193,7 +193,7 @@ module _ {S K : Type 0} (reads : SourceGhosts S) (writes : SinkGhosts K)
       took = λ place sink I.
           let H = there place sink I in (
             H.stream.written,
-            has_taken reads writes first x entries now many many_now were are stayed F.files offers F.opening F.world F.begins.opens F.told (written F.world F.stands) place sink I H.component H.named H.work H.stream H.found,
+            has_taken reads writes (length x.plan.parts) first.graph x.graph entries now were are many many_now stayed x.plan F.files refl offers F.opening F.world F.begins.opens F.told (written F.world F.stands) place sink I H.component H.named H.work H.stream H.found,
             is_there (stream_of place F.world) (λ (s : Stream). s.written ≡ H.stream.written) H.stream H.found refl,
           );
     }

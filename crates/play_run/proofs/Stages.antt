@@ -49,7 +49,7 @@ use Rattle.play_run.proofs.Answering.{keeps_in, parts_of, stands_then, with_both
 use Rattle.play_run.proofs.Files.{told_same}
 use Rattle.play_run.proofs.Asking.{asked_on}
 use Rattle.play_run.proofs.Recording.{goes_on, is_player}
-use Rattle.play_run.proofs.Timely.{drop_here, none_left}
+use Rattle.play_result_laws.proofs.ListFronts.{drop_here, none_left}
 use Rattle.play_run.proofs.Streaming.{StreamsOn, streams_go}
 use Rattle.play_run.proofs.Working.{still_none}
 

@@ -1,6 +1,6 @@
 -- A work is claimed, done and brought back: a step of its component.
 use Rattle.std.proofs.Common.{◌≡◌, inl, inr, ◌<◌, ◌≤◌, ℕ, zero, suc, arith, true, false, nat_eq, List, [], length, Option, Some, None, Result, Ok, refl, sym, ◌∙◌, ap, subst, eqb-true, eq-eqb, ne_eqb, Bool, ◌≢◌}
-use Rattle.std.specs.Prelude.{MatchOption, is_some}
+use Rattle.std.specs.Prelude.{IfSome, MatchOption, is_some}
 use Rattle.std.proofs.lemmas.Bool.{cases_eq}
 use Rattle.omx_types.specs.declared.handle.Handle.{Handle}
 use Rattle.omx_types.specs.declared.error.OmxError.{OmxError}
@@ -348,7 +348,7 @@ module _ {S K : Type 0} (Stays : Held S K → Held S K → Type 0) (itself : (a 
   else_stays n e = subst (λ (file : Option (PartFile S K)). Stays (unfailed (file_of n g)) (unfailed file)) (sym (comes n e ∙ goes n e)) (itself (unfailed (file_of n g)))
 
   -- of a step that didn't fail
-  pub work_stays : b.failed ≡ false → (n : ℕ) → Stays (unfailed (file_of n g)) (unfailed (file_of n k))
+  work_stays : b.failed ≡ false → (n : ℕ) → Stays (unfailed (file_of n g)) (unfailed (file_of n k))
   work_stays so n = elim (cases_eq n number) [
     | inl e ↦
         subst (λ (j : ℕ). Stays (unfailed (file_of j g)) (unfailed (file_of j k))) (sym e)
@@ -356,14 +356,14 @@ module _ {S K : Type 0} (Stays : Held S K → Held S K → Type 0) (itself : (a 
     | inr e ↦ else_stays n e
   ]
 
-  pub work_stayed : (n : ℕ) → (failed : Bool) × Stays (unfailed (file_of n g)) (record { failed = failed; file = file_of n k })
+  work_stayed : (n : ℕ) → (failed : Bool) × Stays (unfailed (file_of n g)) (record { failed = failed; file = file_of n k })
   work_stayed n = elim (cases_eq n number) [
     | inl e ↦ (b.failed, subst (λ (j : ℕ). Stays (unfailed (file_of j g)) (record { failed = b.failed; file = file_of j k })) (sym e) own_stays)
     | inr e ↦ (false, else_stays n e)
   ]
 
 -- what the object shows that came back
-pub work_shows : {S K : Type 0} (Shows : Held S K → Held S K → Type 0) (g k : Shown S K Progress) (number place : ℕ) (a b : Held S K) → a.failed ≡ false → a.file ≡ file_of number g → file_of number k ≡ b.file → number ≡ place → Shows a b
+work_shows : {S K : Type 0} (Shows : Held S K → Held S K → Type 0) (g k : Shown S K Progress) (number place : ℕ) (a b : Held S K) → a.failed ≡ false → a.file ≡ file_of number g → file_of number k ≡ b.file → number ≡ place → Shows a b
     → (failed : Bool) × Shows (unfailed (file_of place g)) (record { failed = failed; file = file_of place k })
 work_shows {S = S} {K = K} Shows g k number place a b whole its back own shows = (
   b.failed,
@@ -371,6 +371,27 @@ work_shows {S = S} {K = K} Shows g k number place a b whole its back own shows =
       (subst (λ (z : Held S K). Shows z (record { failed = b.failed; file = file_of number k })) (λ i. record { failed = whole i; file = its i })
       (subst (Shows a) (λ i. record { failed = b.failed; file = sym back i }) shows)),
 )
+
+-- of the component whose work came back, seen from the view that the play had
+module _ {S K : Type 0} (g m k z : Shown S K Progress) (viewed : g ≡ z) (h its : Handle) (same : its ≡ h) (a b : Held S K) (whole : a.failed ≡ false) (file : a.file ≡ file_of h.generation g) (back : file_of its.generation k ≡ b.file) where
+  back_here : file_of h.generation k ≡ b.file
+  back_here = subst (λ (c : Handle). file_of c.generation k ≡ b.file) same back
+
+  module _ (Stays : Held S K → Held S K → Type 0) (itself : (a : Held S K) → Stays a a) (goes : KeepsFiles h.generation g m) (comes : KeepsFiles its.generation m k) (stays : Stays a b) where
+    comes_here : KeepsFiles h.generation m k
+    comes_here = subst (λ (c : Handle). KeepsFiles c.generation m k) same comes
+
+    pub files_stay_on : b.failed ≡ false → (n : ℕ) → Stays (unfailed (file_of n z)) (unfailed (file_of n k))
+    files_stay_on still = subst (λ (y : Shown S K Progress). (n : ℕ) → Stays (unfailed (file_of n y)) (unfailed (file_of n k))) viewed (work_stays Stays itself g m k h.generation a b whole file back_here goes comes_here stays still)
+
+    pub files_stayed_on : (n : ℕ) → (failed : Bool) × Stays (unfailed (file_of n z)) (record { failed = failed; file = file_of n k })
+    files_stayed_on = subst (λ (y : Shown S K Progress). (n : ℕ) → (failed : Bool) × Stays (unfailed (file_of n y)) (record { failed = failed; file = file_of n k })) viewed (work_stayed Stays itself g m k h.generation a b whole file back_here goes comes_here stays)
+
+  pub failure_shows : (Shows : PartFault → Held S K → Held S K → Type 0) (place : ℕ) → h.generation ≡ place → (told : Option PartFault) (fault : PartFault) → told ≡ Some fault → IfSome told (λ fault. Shows fault a b)
+      → (failed : Bool) × Shows fault (unfailed (file_of place z)) (record { failed = failed; file = file_of place k })
+  failure_shows Shows place own told fault is shown =
+      subst (λ (y : Shown S K Progress). (failed : Bool) × Shows fault (unfailed (file_of place y)) (record { failed = failed; file = file_of place k })) viewed
+      (work_shows (Shows fault) g k h.generation place a b whole file back_here own (subst (λ (o : Option PartFault). IfSome o (λ fault. Shows fault a b)) is shown))
 
 -- a part whose step didn't fail hasn't failed
 pub still_whole : (announces : Bool) (before after : Bool) (fault : Option PartFault) → before ≡ false → fault ≡ None → (announces ≡ false → after ≡ is_some fault) → (announces ≡ true → after ≡ before) → after ≡ false

@@ -1,5 +1,5 @@
 -- A state that the conductor begins is asked in time.
-use Rattle.std.proofs.Common.{◌≡◌, ◌⊎◌, inl, inr, ℕ, zero, suc, ◌<◌, ◌≤◌, Bool, true, false, nat_lt, ◌==◌, List, [], ◌∷◌, ◌++◌, drop, length, slice_get, Option, Some, None, refl, sym, ◌∙◌, ap, subst, append-nil, append_assoc, length-append, arith}
+use Rattle.std.proofs.Common.{◌≡◌, ◌⊎◌, inl, inr, ℕ, zero, suc, ◌<◌, ◌≤◌, Bool, true, false, nat_lt, ◌==◌, List, [], ◌∷◌, ◌++◌, drop, slice_get, Option, Some, None, refl, sym, ◌∙◌, ap, subst, append-nil, append_assoc, arith}
 use Rattle.std.specs.Prelude.{count_by, flat_map, if◌then◌else◌}
 use Rattle.std.proofs.lemmas.List.Concat.{flat_map-append}
 use Rattle.omx_types.specs.declared.command.Completion.{Completion}
@@ -33,21 +33,9 @@ use Rattle.play_run.proofs.Asked.{carried_once, counted, last_or, none_behind}
 use Rattle.play_run.proofs.Asking.{next_of}
 use Rattle.play_run.proofs.Ends.{end_place}
 use Rattle.play_run.proofs.Heard.{all_at, end_at, port_told}
-use Rattle.play_run.proofs.Timely.{cut, none_there}
+use Rattle.play_result_laws.proofs.ListFronts.{last_is, none_there}
 
 -- ---- lists
-
-pub last_is : {A : Type 0} (xs front : List A) (y z : A) → xs ++ y ∷ [] ≡ front ++ z ∷ [] → z ≡ y
-last_is xs front y z e = elim (cut xs front [] y z e) [
-  | inl c ↦ c.1
-  | inr c ↦
-      let a = ap length e in
-      let b = length-append xs (y ∷ []) in
-      let d = length-append front (z ∷ []) in
-      let f = ap length c.1 in
-      let g = length-append front (z ∷ c.0) in
-      absurd (omega arith)
-]
 
 none_before : (xs ys : List Asking) → xs ++ ys ≡ [] → xs ≡ []
 none_before [] ys e = refl

@@ -8,6 +8,7 @@ pub mod Lengths
 pub mod Pieces
 pub mod Landings
 pub mod Outgoing
+pub mod HeadersLand
 pub mod Steps
 pub mod Told
 pub mod Poising

@@ -57,6 +57,29 @@ ended_alike : (t : Terms) (n m : ℕ) (ys zs : List CarriedHeader) → ((port : 
 ended_alike t n m ys zs h port zero = refl
 ended_alike t n m ys zs h port (suc count) = let a = h port in let b = ended_alike t n m ys zs h (port + 1) count in λ i. a i ∷ b i
 
+-- ---- its port is joined, and isn't returning
+
+module _ (x : Cast) (p : Play) (w : World) (c : ℕ) (a : Component) (U : IsPoised x p w c a) (work : Work) (f : a.work ≡ Some work) (J : IsWork x p c a work) (j l : ℕ) (y : Picked) (input : Bool) (P : IsPick x p c work.headers j y l input) where
+  port_is : (q : Port) × (port_of a y.port ≡ Some q) × (q.state ≡ joined_state (link_to x l (end_at (not input) x l)))
+  port_is =
+      let H = U.its input l P.of_link in
+      (H.port, ap (port_of a) P.port ∙ H.there, (H.end).state)
+
+  pub tunnelled : holds_at (port_of a y.port) is_joined ≡ true
+  tunnelled =
+      let q = port_is in
+      ap (λ (o : Option Port). holds_at o is_joined) q.1 ∙ ap (λ (z : PortState). is_some z.link) q.2
+
+  pub stays_put : holds_at (port_of a y.port) (returning a) ≡ false
+  stays_put =
+      let q = port_is in
+      let r = U.runs (is_running x p w c a U work f J) in
+      let valid = executing_valid a.state r.0 in
+      let going : is_going_to states.Idle a ≡ false = ap (λ (o : Option Pending). holds_at o (λ z. same_state z.target states.Idle)) (at_rest_none a r.1) in
+      let state = q.2 in
+      ap (λ (o : Option Port). holds_at o (returning a)) q.1
+      ∙ ((λ i. (state i).flushing || is_disabling (state i).mode || valid i || (is_running_state a.state && going i)) ∙ and_false (is_running_state a.state))
+
 module _ (x : Cast) (p : Play) (w : World) (c : ℕ) (a : Component) (U : IsPoised x p w c a) (work : Work) (f : a.work ≡ Some work) (J : IsWork x p c a work)
     (s : Stream) (g : stream_of (number_of a) w ≡ Some s) (piece : List ℕ) (G : Gives (terms_in a work) s (step_frames (terms_in a work) s (carried w.headers work.headers)) piece) (m : ℕ) (text : List ℕ) where
   abbrev t : Terms
@@ -82,29 +105,6 @@ module _ (x : Cast) (p : Play) (w : World) (c : ℕ) (a : Component) (U : IsPois
 
   abbrev its : WorkDone
   its = done x p w c a U work f J s g piece G m text
-
-  -- ---- its port is joined, and isn't returning
-
-  module _ (j l : ℕ) (y : Picked) (input : Bool) (P : IsPick x p c xs j y l input) where
-    port_is : (q : Port) × (port_of a y.port ≡ Some q) × (q.state ≡ joined_state (link_to x l (end_at (not input) x l)))
-    port_is =
-        let H = U.its input l P.of_link in
-        (H.port, ap (port_of a) P.port ∙ H.there, (H.end).state)
-
-    pub tunnelled : holds_at (port_of a y.port) is_joined ≡ true
-    tunnelled =
-        let q = port_is in
-        ap (λ (o : Option Port). holds_at o is_joined) q.1 ∙ ap (λ (z : PortState). is_some z.link) q.2
-
-    pub stays_put : holds_at (port_of a y.port) (returning a) ≡ false
-    stays_put =
-        let q = port_is in
-        let r = U.runs (is_running x p w c a U work f J) in
-        let valid = executing_valid a.state r.0 in
-        let going : is_going_to states.Idle a ≡ false = ap (λ (o : Option Pending). holds_at o (λ z. same_state z.target states.Idle)) (at_rest_none a r.1) in
-        let state = q.2 in
-        ap (λ (o : Option Port). holds_at o (returning a)) q.1
-        ∙ ((λ i. (state i).flushing || is_disabling (state i).mode || valid i || (is_running_state a.state && going i)) ∙ and_false (is_running_state a.state))
 
   -- ---- which inputs have ended
 
@@ -208,7 +208,7 @@ module _ (x : Cast) (p : Play) (w : World) (c : ℕ) (a : Component) (U : IsPois
     pub load_out : load_after a s its (step (seen_as y r)) ≡ record (load_in (filled got (eos_flags ends) (held r))) { mark = None }
     load_out =
         let z : CarriedHeader = step (seen_as y r) in
-        let back : is_returning a z ≡ false = stays_put j l y false P in
+        let back : is_returning a z ≡ false = stays_put x p w c a U work f J j l y false P in
         let outside : is_an_input a z ≡ false = out_side in
         let fin = finished_out in
         let own : z.header.mark ≡ None = unmarked_by j (seen_as y r) (its_place x p w c a U work f J s g j l y false r P H.found) in

@@ -51,7 +51,8 @@ use Rattle.play_world_laws.proofs.Rooms.{end_notes, port_of_state, state_notes, 
 use Rattle.play_world_laws.proofs.Wanted.{HasPort, IsLinkAt, IsPlayPort, end_at}
 use Rattle.play_world_laws.specs.Changing.{commands_of_port, is_enabled_at, is_held_at, is_joined_at, is_set, is_set_at, mode_at, notes_of_port, state_by}
 use Rattle.play_world_laws.specs.PlayWorlds.{IsActorAt, IsEndAt, IsPlayWorld, PlayCast, announced_note, commands_of_end, end_of_link, notes_of_end, port_commands, port_notes, port_number, settings_notes, settings_of_end}
-use Rattle.play_world_laws.proofs.Claiming.{format_itself, late_reads}
+use Rattle.machine_laws.proofs.Fitting.{format_itself}
+use Rattle.play_world_laws.proofs.Claiming.{late_reads}
 use Rattle.play_world_laws.proofs.ChangeCounts.{tunnel}
 use Rattle.play_world_laws.proofs.ChangeEnds.{actor_there, end_inside, end_there, ends_apart, port_end, unbroken_port}
 use Rattle.play_world_laws.proofs.QueuedLists.{links_none, links_one, links_some}

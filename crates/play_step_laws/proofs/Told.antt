@@ -214,7 +214,7 @@ module _ (x : Cast) (p : Play) (w : World) (c : ℕ) (a : Component) (U : IsPois
       let T = taken_at x p w c a U work f J s g j z.0 z.1 in
       let port : y.port ≡ (T.pick).port = ap (λ (k : CarriedHeader). k.port) z.2 ∙ ap (λ (k : CarriedHeader). k.port) T.is in (
         ap (λ (k : CarriedHeader). k.header.mark) z.2 ∙ unmarked_by x p w c a U work f J s g piece G m text j z.0 z.1,
-        ap (λ (k : ℕ). holds_at (port_of a k) is_joined) port ∙ tunnelled x p w c a U work f J s g piece G m text j T.link T.pick T.input T.picked,
-        ap (λ (k : ℕ). holds_at (port_of a k) (returning a)) port ∙ stays_put x p w c a U work f J s g piece G m text j T.link T.pick T.input T.picked,
+        ap (λ (k : ℕ). holds_at (port_of a k) is_joined) port ∙ tunnelled x p w c a U work f J j T.link T.pick T.input T.picked,
+        ap (λ (k : ℕ). holds_at (port_of a k) (returning a)) port ∙ stays_put x p w c a U work f J j T.link T.pick T.input T.picked,
       )) in
       (λ i. quiet i ++ end_note (tells_is i) ++ []) ∙ append-nil (end_note ((x.layout).is_sink c && ends))

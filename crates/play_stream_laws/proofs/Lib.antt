@@ -23,6 +23,7 @@ pub mod Setting
 pub mod Changing
 pub mod Planned
 pub mod StepComing
+pub mod BytesLand
 pub mod Landing
 pub mod Made
 pub mod PlaySinking

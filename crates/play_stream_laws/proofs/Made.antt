@@ -18,7 +18,7 @@ use Rattle.play_model.specs.Content.{Part, Streams, frames_taken, padded, piece 
 use Rattle.play_model.specs.Play.{Play}
 use Rattle.play_world_laws.specs.Worlds.{IsWork}
 use Rattle.play_stream_laws.specs.Parts.{part_of}
-use Rattle.play_stream_laws.proofs.Plain.{plain_same}
+use Rattle.audio_parts.proofs.Plain.{plain_same}
 use Rattle.play_stream_laws.specs.Flowing.{flowing_in}
 use Rattle.play_stream_laws.specs.Contents.{PlayContents, Tells, network_of}
 use Rattle.play_stream_laws.proofs.Bounded.{input_out, source_below}

@@ -9,7 +9,7 @@ use Rattle.part_forms.specs.Kinds.{is_source}
 use Rattle.part_forms.specs.Shapes.{shape_by, shape_of}
 use Rattle.audio_parts.proofs.Mixing.{mixed_padded}
 use Rattle.play_model.specs.Content.{padded}
-use Rattle.play_stream_laws.proofs.Plain.{same_by}
+use Rattle.audio_parts.proofs.Plain.{same_by}
 
 pub padded_whole : (size : ℕ) (bytes : List ℕ) → length bytes ≡ size → padded size bytes ≡ bytes
 padded_whole size bytes e =

@@ -60,6 +60,13 @@ module _ (number : ℕ) (key : PortKey) (spot : Spot) (n : ℕ) (load : Load) (h
       let s = ap (λ (s : Seen). s.done output) looks ∙ put_done spot output (key_not output key p) in
       ap (contents_of ks) (λ i. (ds ++ t i) ++ s i) ∙ contents_off hs ks n (numbers_on output input ds hs) (none_on output input ds d) off
 
+  -- an output's header comes back
+  pub put_ready : (input : PortKey) (ds : List ℕ) → spot ≡ spots.TodoFront → input ≢ key → is_in n ds ≡ false → bytes_on key input ds ks ≡ bytes_on key input ds hs
+  put_ready input ds e q d =
+      let t : (seen ks).todo input ≡ (seen hs).todo input = ap (λ (s : Seen). s.todo input) looks ∙ put_todo spot input (key_not input key q) in
+      let s : (seen ks).done key ≡ (seen hs).done key = ap (λ (s : Seen). s.done key) looks ∙ ap (λ (z : Spot). (pushed key z n load (stock_of hs)).headers.done key) e in
+      ap (contents_of ks) (λ i. (ds ++ t i) ++ s i) ∙ contents_off hs ks n (numbers_on key input ds hs) (none_on key input ds d) off
+
 module _ (number n : ℕ) (load : Load) (hs : List HeaderRecord) (o : Once hs) (A : IsOutAt number n hs) (output input : PortKey) (apart : input ≢ output) where
   -- an output's header was filled
   pub put_sent : (ds : List ℕ) → is_in n ds ≡ false → bytes_on output input ds (put output spots.DoneBack n (loaded load) hs) ≡ bytes_on output input ds hs ++ load.content

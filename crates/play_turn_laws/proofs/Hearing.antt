@@ -18,7 +18,7 @@ use Rattle.play_plan_laws.specs.Conducting.{HasViews}
 use Rattle.play_plan_laws.proofs.Conducting.{view_at, views_many}
 use Rattle.play_world_laws.specs.Changing.{IsPast, told_of_port}
 use Rattle.play_world_laws.specs.PlayWorlds.{HasHeard, IsPlayWorld, PlayCast, port_number}
-use Rattle.play_turn_laws.specs.Conducting.{AreCarriedOut, AreLates, HasHeardOf, IsCarriedOut, IsLateAt, IsPlayConducting, IsPlayConductor, IsLateOf, IsUnderWay}
+use Rattle.play_turn_laws.specs.Conducting.{AreCarriedOut, AreLates, HasHeardOf, IsCarriedOut, IsLateAt, IsPlayConducting, IsPlayConductor, IsLateOf, IsToldBy, IsUnderWay}
 
 -- ---- what is told of a port
 
@@ -38,7 +38,7 @@ enable_is port (Some (completions.Flush other)) h = absurd cc
 enable_is port (Some (completions.Mark other)) h = absurd cc
 enable_is port None h = absurd cc
 
-pub or_true : (a b : Bool) → (a ≡ true) ⊎ (b ≡ true) → (a || b) ≡ true
+or_true : (a b : Bool) → (a ≡ true) ⊎ (b ≡ true) → (a || b) ≡ true
 or_true true b h = refl
 or_true false b (inl e) = absurd cc
 or_true false b (inr e) = e
@@ -78,12 +78,12 @@ told_enabled (suc (suc (suc (suc (suc (suc (suc (suc n)))))))) port l = refl
 
 -- ---- lists
 
-pub at_map : {X Y : Type 0} (f : X → Y) (xs : List X) (i : ℕ) (y : Y) → slice_get (map f xs) i ≡ Some y → (x : X) × (slice_get xs i ≡ Some x) × (f x ≡ y)
+at_map : {X Y : Type 0} (f : X → Y) (xs : List X) (i : ℕ) (y : Y) → slice_get (map f xs) i ≡ Some y → (x : X) × (slice_get xs i ≡ Some x) × (f x ≡ y)
 at_map f [] i y e = absurd cc
 at_map f (x ∷ xs) zero y e = (x, refl, cc)
 at_map f (x ∷ xs) (suc i) y e = at_map f xs i y e
 
-pub map_there : {X Y : Type 0} (f : X → Y) (xs : List X) (i : ℕ) (x : X) → slice_get xs i ≡ Some x → slice_get (map f xs) i ≡ Some (f x)
+map_there : {X Y : Type 0} (f : X → Y) (xs : List X) (i : ℕ) (x : X) → slice_get xs i ≡ Some x → slice_get (map f xs) i ≡ Some (f x)
 map_there f [] i x e = absurd cc
 map_there {X = X} f (y ∷ xs) zero x e = let s : y ≡ x = cc in ap (λ (z : X). Some (f z)) s
 map_there f (y ∷ xs) (suc i) x e = map_there f xs i x e
@@ -210,7 +210,7 @@ taker_within x l C b = (((C.layout).network).inside) l b
 
 -- ---- what is heard of a link
 
-pub changed_more : (late next : LateLink) → next.steps ≡ late.steps → (late.output_enabled ≡ true → next.output_enabled ≡ true) → (late.input_enabled ≡ true → next.input_enabled ≡ true) → is_changed late ≡ true → is_changed next ≡ true
+changed_more : (late next : LateLink) → next.steps ≡ late.steps → (late.output_enabled ≡ true → next.output_enabled ≡ true) → (late.input_enabled ≡ true → next.input_enabled ≡ true) → is_changed late ≡ true → is_changed next ≡ true
 changed_more late next e f g h =
     let t : (late.steps == 3) ≡ true = (both_of (late.steps == 3) (late.output_enabled && late.input_enabled) h).0 in
     let b = both_enabled late h in
@@ -218,6 +218,55 @@ changed_more late next e f g h =
     let o = f b.0 in
     let i = g b.1 in
     rw (u, o, i) refl
+
+-- where what it then holds for told of each is told
+module _ (x : PlayCast) (recent : ℕ) (p : Play) (w : World) (W : IsPlayWorld x recent p w) (told : List Progress)
+    (H : (l : ℕ) (late : LateLink) → IsLateAt x.cast recent p l late → IsToldBy (p.change l) (heard_late told late)) where
+  heard_at : (l : ℕ) (late : LateLink) → IsLateAt x.cast recent p l late → IsLateAt x.cast recent p l (heard_late told late)
+  heard_at l late K =
+      let next : LateLink = heard_late told late in
+      record {
+        of_link = of_same x.cast l late next refl refl refl K.of_link;
+        way = K.way;
+        told = H l late K;
+        disabled = λ m.
+            let b = both_of late.output_disabled late.input_disabled (K.disabled m) in
+            let o : next.output_disabled ≡ true = or_true late.output_disabled _ (inl b.0) in
+            let i : next.input_disabled ≡ true = or_true late.input_disabled _ (inl b.1) in
+            λ j. o j && i j;
+        latest = λ m f. either (is_changed late)
+            (λ t.
+            let g = changed_more late next refl (λ e. or_true late.output_enabled _ (inl e)) (λ e. or_true late.input_enabled _ (inl e)) t in
+            absurd cc)
+            (λ u. K.latest m u);
+      }
+
+  pub lates_heard : (lates : List LateLink) → AreLates x.cast recent p lates → AreLates x.cast recent p (heard_lates told lates)
+  lates_heard lates L = record {
+    each = λ i late e. let a = at_map (heard_late told) lates i late e in let k = L.each i a.0 a.1 in (k.0, subst (λ (y : LateLink). IsLateAt x.cast recent p k.0 y) a.2 (heard_at k.0 a.0 k.1));
+    some = λ l b t. let k = L.some l b t in (k.0, heard_late told k.1, map_there (heard_late told) lates k.0 k.1 k.2, heard_at l k.1 k.3);
+    rising = λ i j a b h e f.
+        let c = at_map (heard_late told) lates i a e in
+        let d = at_map (heard_late told) lates j b f in
+        let r = L.rising i j c.0 d.0 h c.1 d.1 in
+        let m : (c.0).source ≡ a.source = ap (λ (y : LateLink). y.source) c.2 in
+        let n : (d.0).source ≡ b.source = ap (λ (y : LateLink). y.source) d.2 in
+        omega arith;
+  }
+
+  -- which it is of, it was
+  heard_of : (lates : List LateLink) → AreLates x.cast recent p lates → (i l : ℕ) (next : LateLink) → slice_get (heard_lates told lates) i ≡ Some next → IsLateOf x.cast l next
+      → (late : LateLink) × (slice_get lates i ≡ Some late) × (heard_late told late ≡ next) × IsLateAt x.cast recent p l late
+  heard_of lates L i l next e N =
+      let a = at_map (heard_late told) lates i next e in
+      let k = L.each i a.0 a.1 in
+      let same : k.0 ≡ l = one_link x.cast k.0 l a.0 next W.cast_is (k.1).of_link N (ap (λ (y : LateLink). y.source) a.2) in
+      (a.0, a.1, a.2, subst (λ (m : ℕ). IsLateAt x.cast recent p m a.0) same k.1)
+
+  pub carried_heard : (lates : List LateLink) → AreLates x.cast recent p lates → AreCarriedOut x.cast p lates → AreCarriedOut x.cast p (heard_lates told lates)
+  carried_heard lates L D i l next e N =
+      let h = heard_of lates L i l next e N in
+      subst (λ (n : ℕ). IsCarriedOut n (p.change l).step) (ap (λ (y : LateLink). y.steps) h.2) (D i l h.0 h.1 (h.3).of_link)
 
 module _ (x : PlayCast) (recent : ℕ) (p : Play) (w : World) (W : IsPlayWorld x recent p w) (told : List Progress)
     (T : (c : ℕ) → c < components_of x.cast → (h : Progress) × (slice_get told (script_place x.cast c) ≡ Some h) × HasHeard x.cast recent p c h) where
@@ -245,59 +294,18 @@ module _ (x : PlayCast) (recent : ℕ) (p : Play) (w : World) (W : IsPlayWorld x
           input_enabled = ap (λ (o : Option Progress). late.input_enabled || tells_enable late.input o) R.1 ∙ enabled_flag x recent p w W l late K false (taker_of x.cast l) refl R.0 R.2 late.input its.input;
         }
 
-    pub heard_at : IsLateAt x.cast recent p l next
-    heard_at = record {
-      of_link = of_same x.cast l late next refl refl refl its;
-      way = K.way;
-      told = record {
-        output_disabled = λ t. leb-true 4 _ (sym knows.output_disabled ∙ t);
-        input_disabled = λ t. leb-true 4 _ (sym knows.input_disabled ∙ t);
-        output_enabled = λ t. leb-true 8 _ (sym knows.output_enabled ∙ t);
-        input_enabled = λ t. leb-true 8 _ (sym knows.input_enabled ∙ t);
-      };
-      disabled = λ m.
-          let b = both_of late.output_disabled late.input_disabled (K.disabled m) in
-          let o : next.output_disabled ≡ true = or_true late.output_disabled _ (inl b.0) in
-          let i : next.input_disabled ≡ true = or_true late.input_disabled _ (inl b.1) in
-          λ j. o j && i j;
-      latest = λ m f. either (is_changed late)
-          (λ t.
-          let g = changed_more late next refl (λ e. or_true late.output_enabled _ (inl e)) (λ e. or_true late.input_enabled _ (inl e)) t in
-          absurd cc)
-          (λ u. K.latest m u);
+    pub told_so : IsToldBy (p.change l) next
+    told_so = record {
+      output_disabled = λ t. leb-true 4 _ (sym knows.output_disabled ∙ t);
+      input_disabled = λ t. leb-true 4 _ (sym knows.input_disabled ∙ t);
+      output_enabled = λ t. leb-true 8 _ (sym knows.output_enabled ∙ t);
+      input_enabled = λ t. leb-true 8 _ (sym knows.input_enabled ∙ t);
     }
-
-  pub lates_heard : (lates : List LateLink) → AreLates x.cast recent p lates → AreLates x.cast recent p (heard_lates told lates)
-  lates_heard lates L = record {
-    each = λ i late e. let a = at_map (heard_late told) lates i late e in let k = L.each i a.0 a.1 in (k.0, subst (λ (y : LateLink). IsLateAt x.cast recent p k.0 y) a.2 (heard_at k.0 a.0 k.1));
-    some = λ l b t. let k = L.some l b t in (k.0, heard_late told k.1, map_there (heard_late told) lates k.0 k.1 k.2, heard_at l k.1 k.3);
-    rising = λ i j a b h e f.
-        let c = at_map (heard_late told) lates i a e in
-        let d = at_map (heard_late told) lates j b f in
-        let r = L.rising i j c.0 d.0 h c.1 d.1 in
-        let m : (c.0).source ≡ a.source = ap (λ (y : LateLink). y.source) c.2 in
-        let n : (d.0).source ≡ b.source = ap (λ (y : LateLink). y.source) d.2 in
-        omega arith;
-  }
-
-  -- which it is of, it was
-  heard_of : (lates : List LateLink) → AreLates x.cast recent p lates → (i l : ℕ) (next : LateLink) → slice_get (heard_lates told lates) i ≡ Some next → IsLateOf x.cast l next
-      → (late : LateLink) × (slice_get lates i ≡ Some late) × (heard_late told late ≡ next) × IsLateAt x.cast recent p l late
-  heard_of lates L i l next e N =
-      let a = at_map (heard_late told) lates i next e in
-      let k = L.each i a.0 a.1 in
-      let same : k.0 ≡ l = one_link x.cast k.0 l a.0 next W.cast_is (k.1).of_link N (ap (λ (y : LateLink). y.source) a.2) in
-      (a.0, a.1, a.2, subst (λ (m : ℕ). IsLateAt x.cast recent p m a.0) same k.1)
 
   pub flags_heard : (lates : List LateLink) → AreLates x.cast recent p lates → (i l : ℕ) (next : LateLink) → slice_get (heard_lates told lates) i ≡ Some next → IsLateOf x.cast l next → HasHeardOf (p.change l) next
   flags_heard lates L i l next e N =
-      let h = heard_of lates L i l next e N in
+      let h = heard_of x recent p w W told told_so lates L i l next e N in
       subst (λ (y : LateLink). HasHeardOf (p.change l) y) h.2 (knows l h.0 h.3)
-
-  pub carried_heard : (lates : List LateLink) → AreLates x.cast recent p lates → AreCarriedOut x.cast p lates → AreCarriedOut x.cast p (heard_lates told lates)
-  carried_heard lates L D i l next e N =
-      let h = heard_of lates L i l next e N in
-      subst (λ (n : ℕ). IsCarriedOut n (p.change l).step) (ap (λ (y : LateLink). y.steps) h.2) (D i l h.0 h.1 (h.3).of_link)
 
 -- ---- the conductor
 
@@ -315,14 +323,15 @@ module _ (x : PlayCast) (recent : ℕ) (p : Play) (w : World) (W : IsPlayWorld x
   conductor_hears D C =
       let told = heard_views value.told views in
       let n : length value.told ≡ length views = V.known_many ∙ sym V.many in
+      let its = told_so x recent p w W told heard_told in
       record {
         conducting = record {
           sinks = record { many = (D.sinks).many; each = (D.sinks).each };
           many = views_many value.told views n ∙ D.many;
-          lates = lates_heard x recent p w W told heard_told value.lates D.lates;
+          lates = lates_heard x recent p w W told its value.lates D.lates;
           sends = D.sends;
         };
         told = heard_told;
         heard = flags_heard x recent p w W told heard_told value.lates D.lates;
-        carried = carried_heard x recent p w W told heard_told value.lates D.lates C;
+        carried = carried_heard x recent p w W told its value.lates D.lates C;
       }

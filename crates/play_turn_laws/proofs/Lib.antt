@@ -2,6 +2,7 @@ pub mod Hearing
 pub mod Keeping
 pub mod Standing
 pub mod Sending
+pub mod ChangeSteps
 pub mod Changing
 pub mod Casting
 pub mod Turning

@@ -1,8 +1,6 @@
 -- A claim of which the work announces was one of a late source that must.
-use Rattle.std.proofs.Common.{◌≡◌, ◌⊎◌, inl, inr, ℕ, zero, suc, ◌<◌, ◌≤◌, true, false, not, ◌&&◌, nat_le, slice_get, Some, Result, Ok, refl, sym, ◌∙◌, ap, subst, eq-eqb, le-leb, leb-false, arith}
+use Rattle.std.proofs.Common.{◌≡◌, ◌⊎◌, inl, inr, ℕ, zero, suc, ◌<◌, ◌≤◌, true, false, not, ◌&&◌, nat_le, slice_get, Some, Result, Ok, refl, sym, ◌∙◌, ap, subst, le-leb, leb-false, arith}
 use Rattle.omx_types.specs.declared.error.OmxError.{OmxError}
-use Rattle.omx_types.specs.declared.format.Format.{Format}
-use Rattle.omx_types.specs.declared.format.Format.TheVariants as formats
 use Rattle.omx_types.specs.declared.handle.Handle.{Handle}
 use Rattle.omx_types.specs.declared.kind.Kind.{Kind}
 use Rattle.omx_types.specs.declared.kind.Kind.TheVariants as kinds
@@ -22,6 +20,7 @@ use Rattle.machine_laws.proofs.Claiming.{claim_passes}
 use Rattle.machine_laws.proofs.Finding.{either}
 use Rattle.machine_laws.proofs.Keys.{none_or_some}
 use Rattle.machine_laws.proofs.Lookups.{port_parts}
+use Rattle.machine_laws.proofs.Fitting.{format_itself}
 use Rattle.play_model.specs.Acts.{Act, CanAct}
 use Rattle.play_model.specs.Play.{IsRunning, Play}
 use Rattle.play_world_laws.specs.Cast.{components_of, giver_of, links_of, script_place, taker_of}
@@ -36,12 +35,6 @@ use Rattle.play_world_laws.specs.Leading.{PlayLeadsTo}
 use Rattle.play_world_laws.proofs.Announcing.{claim_plays, claimed_is}
 use Rattle.play_world_laws.proofs.ChangeEnds.{actor_there, end_there}
 use Rattle.play_world_laws.proofs.Standing.{runs_back}
-
-pub format_itself : (f : Format) → same_format f f ≡ true
-format_itself (formats.Pcm r c) = rw (eq-eqb r r refl, eq-eqb c c refl) refl
-format_itself (formats.Alaw r c) = rw (eq-eqb r r refl, eq-eqb c c refl) refl
-format_itself (formats.Mulaw r c) = rw (eq-eqb r r refl, eq-eqb c c refl) refl
-format_itself formats.Auto = refl
 
 pub late_reads : (kind : Kind) → is_late kind ≡ true → is_source kind ≡ true
 late_reads kinds.Late e = refl

@@ -2,35 +2,16 @@
 use Rattle.std.proofs.Common.{◌≡◌, ℕ, zero, suc, true, false, nat_eq, List, [], ◌∷◌, filter, slice_get, Some, refl, sym, ◌∙◌, ap, subst, eqb-true, eq-eqb}
 use Rattle.std.specs.List.{list_all}
 use Rattle.omx_types.specs.declared.format.Format.{Format}
-use Rattle.omx_types.specs.declared.format.Format.TheVariants.{Pcm, Alaw, Mulaw, Auto}
 use Rattle.omx_types.specs.declared.kind.Kind.{Kind}
 use Rattle.omx_types.specs.Formats.{channels_of, is_auto, rate_of}
 use Rattle.il_machine.specs.declared.port.PortSetting.{PortSetting}
 use Rattle.il_machine.specs.Settings.{Settings, are_fitting, fits, formats_of, is_known, is_splitter, same_format, same_rate_and_channels}
 use Rattle.machine_laws.proofs.Accepting.{both_of, is_not}
 use Rattle.machine_laws.proofs.Finding.{either}
+use Rattle.machine_laws.proofs.Fitting.{format_itself, same_is}
 use Rattle.play_world_laws.proofs.Resting.{all_true}
 use Rattle.play_world_laws.proofs.Wanted.{filter_from}
 use Rattle.play_world_laws.specs.PlayWorlds.{IsAlike}
-use Rattle.play_world_laws.proofs.Claiming.{format_itself}
-
-same_is : (f g : Format) → same_format f g ≡ true → f ≡ g
-same_is (Pcm r n) (Pcm s m) h = let b = both_of (nat_eq r s) (nat_eq n m) h in let x = eqb-true r s b.0 in let y = eqb-true n m b.1 in rw (x, y) refl
-same_is (Alaw r n) (Alaw s m) h = let b = both_of (nat_eq r s) (nat_eq n m) h in let x = eqb-true r s b.0 in let y = eqb-true n m b.1 in rw (x, y) refl
-same_is (Mulaw r n) (Mulaw s m) h = let b = both_of (nat_eq r s) (nat_eq n m) h in let x = eqb-true r s b.0 in let y = eqb-true n m b.1 in rw (x, y) refl
-same_is Auto Auto h = refl
-same_is (Pcm r n) (Alaw s m) h = absurd cc
-same_is (Pcm r n) (Mulaw s m) h = absurd cc
-same_is (Pcm r n) Auto h = absurd cc
-same_is (Alaw r n) (Pcm s m) h = absurd cc
-same_is (Alaw r n) (Mulaw s m) h = absurd cc
-same_is (Alaw r n) Auto h = absurd cc
-same_is (Mulaw r n) (Pcm s m) h = absurd cc
-same_is (Mulaw r n) (Alaw s m) h = absurd cc
-same_is (Mulaw r n) Auto h = absurd cc
-same_is Auto (Pcm r n) h = absurd cc
-same_is Auto (Alaw r n) h = absurd cc
-same_is Auto (Mulaw r n) h = absurd cc
 
 pub alike_itself : (kind : Kind) (f : Format) → IsAlike kind f f
 alike_itself kind f = (let x = eq-eqb (rate_of f) (rate_of f) refl in let y = eq-eqb (channels_of f) (channels_of f) refl in rw (x, y) refl, λ _. format_itself f)

@@ -40,7 +40,7 @@ use Rattle.play_world_laws.specs.Leading.{PlayLeadsTo}
 use Rattle.play_world_laws.proofs.Announced.{left_same}
 use Rattle.play_world_laws.proofs.Around.{change_here, end_stated}
 use Rattle.play_world_laws.proofs.Both.{AreTurned, both_turned}
-use Rattle.play_world_laws.proofs.Claiming.{format_itself}
+use Rattle.machine_laws.proofs.Fitting.{format_itself}
 use Rattle.play_world_laws.proofs.ChangeEnds.{HasEnd, actor_there, end_inside, end_there}
 use Rattle.play_world_laws.proofs.One.{actor_turned}
 use Rattle.play_world_laws.proofs.ChangedPorts.{port_else, port_here}

@@ -58,7 +58,7 @@ use Rattle.play_world_laws.specs.Conducting.{IsSetStep, definition_key, planned}
 use Rattle.play_world_laws.specs.Leading.{PlayLeadsTo}
 use Rattle.play_world_laws.proofs.Announced.{left_same}
 use Rattle.play_world_laws.proofs.Around.{change_here}
-use Rattle.play_world_laws.proofs.Claiming.{format_itself}
+use Rattle.machine_laws.proofs.Fitting.{format_itself}
 use Rattle.play_world_laws.proofs.ChangeEnds.{HasEnd, actor_there, end_inside, end_there, is_late_source, one_end, one_port}
 use Rattle.play_world_laws.proofs.Formats.{alike_itself, fits_by}
 use Rattle.play_world_laws.proofs.Joining.{none_without}

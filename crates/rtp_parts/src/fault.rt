@@ -1,8 +1,5 @@
 //! The faults of packing and unpacking, and those that an unread head or a stopped read comes to.
 
-ghost use Rattle.std.specs.Prelude.{◌≡◌};
-ghost use Rattle.rtp_parts.specs.Answers.{fault_of_head, fault_of_stop};
-
 use omx_types::WavFault;
 use outside_io::ReadStop;
 use thiserror::Error;
@@ -32,21 +29,28 @@ pub enum RtpFault {
     OutOfMemory,
 }
 
-impl RtpFault {
-    /// That of a head which was not read.
-    pub(crate) fn of_head(fault: WavFault) -> RtpFault
-        ensures { result ≡ fault_of_head fault }
-    {
-        match fault {
+impl From<WavFault> for RtpFault {
+    ghost use Rattle.std.specs.Prelude.{◌≡◌};
+    ghost use Rattle.rtp_parts.specs.Answers.{fault_of_head};
+
+    ghost from_gives = { λ unread fault. fault ≡ fault_of_head unread };
+
+    fn from(unread: WavFault) -> RtpFault {
+        match unread {
             WavFault::Read => RtpFault::Read,
             WavFault::Short { at, size } => RtpFault::Short { at, size },
-            _ => RtpFault::Head(fault),
+            _ => RtpFault::Head(unread),
         }
     }
+}
 
-    pub(crate) fn of_read(stop: ReadStop) -> RtpFault
-        ensures { result ≡ fault_of_stop stop }
-    {
+impl From<ReadStop> for RtpFault {
+    ghost use Rattle.std.specs.Prelude.{◌≡◌};
+    ghost use Rattle.rtp_parts.specs.Answers.{fault_of_stop};
+
+    ghost from_gives = { λ stop fault. fault ≡ fault_of_stop stop };
+
+    fn from(stop: ReadStop) -> RtpFault {
         match stop {
             ReadStop::Failed => RtpFault::Read,
             ReadStop::Short { at, size } => RtpFault::Short { at, size },

@@ -63,10 +63,7 @@ pub fn pack<S: Source, K: Sink>(src: &mut S, snk: &mut K) -> Result<Packed, RtpF
     ensures short_alone { IfErr result (λ fault. IfShort fault (λ _ _. (S.faults src.new ≡ S.faults src.old) × (K.faults snk.new ≡ K.faults snk.old))) }
     ensures stand { OnOk result ((S.faults src.new ≡ S.faults src.old) × (K.faults snk.new ≡ K.faults snk.old)) }
 {
-    let head = match read_head(src) {
-        Ok(head) => head,
-        Err(fault) => return Err(RtpFault::of_head(fault)),
-    };
+    let head = read_head(src)?;
     let Some(companding) = companding_of(head.format) else {
         return Err(RtpFault::WrongFormat);
     };
@@ -148,10 +145,7 @@ fn pack_piece<S: Source, K: Sink>(
     ensures keeps_sink { KeepsSink K.Sink snk.old snk.new }
     ensures stand { OnOk result ((S.faults src.new ≡ S.faults src.old) × (K.faults snk.new ≡ K.faults snk.old)) }
 {
-    match read_exact(src, samples) {
-        Ok(()) => {}
-        Err(stop) => return Err(RtpFault::of_read(stop)),
-    }
+    read_exact(src, samples)?;
     let len = put_records(records, companding, first, samples);
     match write_all(snk, &records[..len]) {
         Ok(()) => Ok(()),

@@ -38,17 +38,12 @@ pub(crate) fn read_record<S: Source>(src: &mut S, buffer: &mut [u8]) -> Result<R
         return Ok(Record::Cut);
     }
     let mut head = [0u8; 2];
-    match read_exact(src, &mut head) {
-        Ok(()) => {}
-        Err(stop) => return Err(RtpFault::of_read(stop)),
-    }
+    read_exact(src, &mut head)?;
     let len = BigEndian::read_u16(&head);
     if left - 2 < u64::from(len) {
         return Ok(Record::Cut);
     }
     let len = usize::from(len);
-    match read_exact(src, &mut buffer[..len]) {
-        Ok(()) => Ok(Record::Whole(len)),
-        Err(stop) => Err(RtpFault::of_read(stop)),
-    }
+    read_exact(src, &mut buffer[..len])?;
+    Ok(Record::Whole(len))
 }

@@ -113,15 +113,11 @@ fn check_magic<S: Source>(src: &mut S) -> Result<(), RtpFault>
         Err(_) => return Err(RtpFault::Read),
     }
     let mut magic = [0u8; 8];
-    match read_exact(src, &mut magic) {
-        Ok(()) => {
-            if magic == *b"omxrtp1\n" {
-                Ok(())
-            } else {
-                Err(RtpFault::NotPackets)
-            }
-        }
-        Err(stop) => Err(RtpFault::of_read(stop)),
+    read_exact(src, &mut magic)?;
+    if magic == *b"omxrtp1\n" {
+        Ok(())
+    } else {
+        Err(RtpFault::NotPackets)
     }
 }
 

@@ -43,7 +43,7 @@ use Rattle.run_audit.specs.Files.{FilesGoOn}
 use Rattle.run_audit.specs.Keeping.{IfTaken, IsClaim, IsQuietReply, IsTake, PutsClient, with_thing, work_in}
 use Rattle.run_audit.specs.Leading.{IsQuietLine, Leads, MayCome, StandsIn}
 use Rattle.run_audit.proofs.Asked.{Lifts, go}
-use Rattle.run_audit.proofs.Clientless.{gives_none}
+use Rattle.history_laws.proofs.Clientless.{gives_none}
 use Rattle.run_audit.proofs.Files.{files_same}
 use Rattle.run_audit.proofs.Filing.{claim_files, still_files, take_files}
 use Rattle.run_audit.proofs.Led.{IsAlwaysThere, SaysNone, leads_nowhere, leads_other, leads_same, none_of}

@@ -21,7 +21,7 @@ use Rattle.play_forms.proofs.OneFault.{one_fault, planned_faultless}
 use Rattle.play_forms.proofs.OneMisfit.{fit_faultless, one_misfit}
 use Rattle.play_plan_laws.specs.Assemblies.{PlayFiles}
 use Rattle.play_result_laws.specs.Files.{IsReader, IsWriter, read_by, written_by}
-use Rattle.play_files.specs.Faults.{fault_of_plan}
+use Rattle.play_forms.specs.Faults.{fault_of_plan}
 use Rattle.play_files.specs.Left.{HaveHeads, IsUnfit, IsUnplanned, IsUnread}
 use Rattle.play_files.specs.Opening.{IsSourceFault}
 use Rattle.play_files.proofs.FittedPlans.{fits_so, misfits_so, valid_of}

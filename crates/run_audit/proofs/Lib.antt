@@ -1,6 +1,5 @@
 mod Plain
 mod Replied
-mod Clientless
 mod Streams
 mod Frames
 mod Returned
@@ -44,4 +43,5 @@ pub mod Outcome
 pub mod FaultOfFile
 pub mod FaultOfCall
 mod ToTheEnd
+mod Audited
 mod EveryText

@@ -1,25 +1,21 @@
 -- What an audit comes to.
-use Rattle.std.proofs.Common.{◌≡◌, ◌≢◌, inl, inr, ℕ, ◌+◌, ◌-◌, ◌<◌, ◌≤◌, ◌^◌, Bool, List, [], ◌∷◌, ◌++◌, length, slice_get, Option, Some, None, Result, Ok, Err, IfErr, IfOk, OnOk, IsSome, IsTrue, false, option_map, refl, sym, ◌∙◌, ap, subst, arith}
+use Rattle.std.proofs.Common.{◌≡◌, ◌≢◌, inl, inr, ℕ, ◌+◌, ◌-◌, ◌<◌, ◌≤◌, ◌^◌, List, [], ◌∷◌, ◌++◌, length, slice_get, Option, Some, None, Result, Ok, Err, IfErr, IfOk, OnOk, IsSome, IsTrue, false, option_map, refl, sym, ◌∙◌, ap, subst, arith}
 use Rattle.std.specs.List.{sum_by}
 use Rattle.std.specs.Result.{is_ok}
 use Rattle.omx_types.specs.declared.fault.Fault.{Fault}
 use Rattle.omx_types.specs.declared.fault.Fault.TheVariants as Faults
-use Rattle.omx_types.specs.declared.fault.Which.{Which}
 use Rattle.omx_types.specs.declared.fault.Which.TheVariants.{Log}
-use Rattle.omx_types.specs.declared.fault.PartFault.{PartFault}
 use Rattle.outside_io.specs.declared.source.Source.{Ghosts as SourceGhosts}
 use Rattle.outside_io.specs.declared.whole.Unread.{Unread}
 use Rattle.outside_io.specs.declared.whole.Unread.TheVariants as reasons
 use Rattle.outside_io.specs.Causes.{Rose}
 use Rattle.outside_io.specs.Moves.{WhereTold}
 use Rattle.outside_io.specs.Files.{AbsencesStand, CountsStand, GoesOn, Outside, TellsAbsence, with_names}
-use Rattle.outside_io.specs.Whole.{HasReadReason, IsShort, WasOpened as WasFound}
+use Rattle.outside_io.specs.Whole.{HasReadReason, WasOpened as WasFound}
 use Rattle.audio_parts.specs.declared.part_file.PartFile.{PartFile}
 use Rattle.audio_parts.specs.declared.part_file.PartFile.TheVariants as files
-use Rattle.audio_parts.specs.Objects.{FileShows, OnBoth, SinkShows, SourceShows}
 use Rattle.script_lang.specs.PlayScripts.{IsPlayScript}
 use Rattle.script_lang.specs.declared.script.Script.{Script}
-use Rattle.script_lang.specs.declared.play_line.PartLine.{PartLine}
 use Rattle.script_lang.specs.declared.script.Script.TheVariants.{Play, Trace}
 use Rattle.play_forms.specs.Plans.{IsPlanOfScript, PlanValue}
 use Rattle.play_course.specs.Settling.{parts_of}
@@ -40,7 +36,7 @@ use Rattle.audit_laws.specs.Played.{IsPlayedBy}
 use Rattle.run_audit.specs.declared.auditing.AuditFault.{AuditFault}
 use Rattle.run_audit.specs.declared.replaying.Replayed.{Replayed}
 use Rattle.run_audit.specs.declared.replaying.Replayed.TheVariants as comes
-use Rattle.run_audit.specs.Auditing.{AreFound, HasVerdict, IsBrokenOff, IsJudged, IsLogFault, IsLogOfPlay, IsLogThere, IsLogUnread, IsMetBy, IsNoPlayLog, IsNotRun, IsPlayRun, IsStepFault, IsUnaudited, fault_of_step, fault_of_unread, outcome_of}
+use Rattle.run_audit.specs.Auditing.{AreFound, HasVerdict, IsJudged, IsLogFault, IsLogOfPlay, IsLogThere, IsMetBy, IsNoPlayLog, IsNotRun, IsPlayRun, IsStepFault, IsUnaudited, fault_of_step, fault_of_unread, outcome_of}
 use Rattle.run_audit.specs.Faults.{IsLogGiven}
 use Rattle.run_audit.specs.Opening.{play_sight}
 use Rattle.run_audit.specs.Replayed.{AreGiven, FilesComeBack, IsVerdictBy, OnFailure, OnVerdict}
@@ -81,6 +77,14 @@ pub given_so : {S : Type 0} (reads : SourceGhosts S) (script : Script) (old mid 
 given_so reads script old mid plan before A name lines text is now e =
     subst (λ (fs : List (Option (PartFile _ (ComparingValue _)))). AreGiven old.tells reads.told (offered reads.offset reads.size reads.told (compared reads).told) plan A.known (judged.sinks_of old.tells old plan) fs) (sym e)
     (judged.given reads script old mid plan before A name lines text is)
+
+-- what is known of the answer of an audit
+pub record ComesTo (script : Script) (log : List ℕ) (old new : Outside) (result : Result ℕ AuditFault) : Type 0 where
+  pub said : IfOk result (λ acts. HasVerdict script log old (Yes acts))
+  pub yes : IfOk result (λ acts. IsJudged script log old new (Yes acts))
+  pub other : IfErr result (IsNotRun script log old new)
+  pub no_play : ((name log : List ℕ) (outside : Outside) (verdict other : Verdict) → IsAudited name log outside verdict → IsAudited name log outside other → other ≡ verdict)
+      → ((P : IsLogOfPlay script log old) → (acts : ℕ) × IsAudited P.name log old (Yes acts)) → IfErr result (IsNoPlayLog script log old)
 
 -- ---- the log
 
@@ -207,49 +211,30 @@ module _ {S : Type 0} (reads : SourceGhosts S) (script : Script) (log : List ℕ
 
       module _ (few : late.read_faults < 2 ^ 64) (replayed : Replayed) (V : IsTrue old.tells → OnVerdict replayed (IsVerdictBy plan A.known (judged.sinks_of old.tells old plan) text))
           (many : length after ≡ length before) (back : FilesComeBack (play_sight reads) plan before after) (failed : OnFailure (play_sight reads) plan before after replayed) (met : IsMetBy reads after replayed) where
-        pub says_yes : IfOk (outcome_of plan.parts after replayed) (λ acts. HasVerdict script log old (Yes acts))
-        says_yes = by replayed V
+        pub comes_to : ComesTo script log old new (outcome_of plan.parts after replayed)
+        comes_to = by replayed V failed met
           where
-            by : (r : Replayed) → (IsTrue old.tells → OnVerdict r (IsVerdictBy plan A.known (judged.sinks_of old.tells old plan) text)) → IfOk (outcome_of plan.parts after r) (λ acts. HasVerdict script log old (Yes acts))
-            by (comes.Yes acts) v = verdict_of (Yes acts) v
-            by (comes.No line why) v = tt
-            by (comes.Failed component fault) v = tt
-            by comes.OutOfMemory v = tt
-
-        pub judged_yes : IfOk (outcome_of plan.parts after replayed) (λ acts. IsJudged script log old new (Yes acts))
-        judged_yes = by replayed V
-          where
-            by : (r : Replayed) → (IsTrue old.tells → OnVerdict r (IsVerdictBy plan A.known (judged.sinks_of old.tells old plan) text)) → IfOk (outcome_of plan.parts after r) (λ acts. IsJudged script log old new (Yes acts))
-            by (comes.Yes acts) v = judges (Yes acts) (verdict_of (Yes acts) v)
-            by (comes.No line why) v = tt
-            by (comes.Failed component fault) v = tt
-            by comes.OutOfMemory v = tt
-
-        pub other : IfErr (outcome_of plan.parts after replayed) (IsNotRun script log old new)
-        other = by replayed V failed met
-          where
-            by : (r : Replayed) → (IsTrue old.tells → OnVerdict r (IsVerdictBy plan A.known (judged.sinks_of old.tells old plan) text)) → OnFailure (play_sight reads) plan before after r → IsMetBy reads after r → IfErr (outcome_of plan.parts after r) (IsNotRun script log old new)
-            by (comes.Yes acts) v f m = tt
-            by (comes.No line why) v f m = judges (No line why) (verdict_of (No line why) v)
-            by (comes.Failed component fault) v f m =
-                broken (fault_of_step (slice_get plan.parts component) (slice_get after component) fault)
-                (causes.step_cause reads script old mid plan before A late new after (still_reads ∙ (A.still).reads) (still_names ∙ (A.still).unread) few many back C component fault f.0 f.1 m)
-            by comes.OutOfMemory v f m = broken Faults.OutOfMemory tt
-
-        -- a play's log has a yes, and so no no
-        pub no_play : ((name log : List ℕ) (outside : Outside) (verdict other : Verdict) → IsAudited name log outside verdict → IsAudited name log outside other → other ≡ verdict)
-            → ((P : IsLogOfPlay script log old) → (acts : ℕ) × IsAudited P.name log old (Yes acts)) → IfErr (outcome_of plan.parts after replayed) (IsNoPlayLog script log old)
-        no_play one law = by replayed V
-          where
-            by : (r : Replayed) → (IsTrue old.tells → OnVerdict r (IsVerdictBy plan A.known (judged.sinks_of old.tells old plan) text)) → IfErr (outcome_of plan.parts after r) (IsNoPlayLog script log old)
-            by (comes.Yes acts) v = tt
-            by (comes.No line why) v = λ tells P.
-                (let yes = law P in
-                let no = verdict_of (No line why) v tells P.name (P.is).text (P.is).held (subst (λ (s : Script). IsPlayScript P.name log (P.is).text s) P.read_so (P.is).is_script) in
-                let z : Yes yes.0 ≡ No line why = one P.name log old (No line why) (Yes yes.0) no yes.1 in
-                cc)
-            by (comes.Failed component fault) v = tt
-            by comes.OutOfMemory v = tt
+            by : (r : Replayed) → (IsTrue old.tells → OnVerdict r (IsVerdictBy plan A.known (judged.sinks_of old.tells old plan) text)) → OnFailure (play_sight reads) plan before after r → IsMetBy reads after r → ComesTo script log old new (outcome_of plan.parts after r)
+            by (comes.Yes acts) v f m = record { said = verdict_of (Yes acts) v; yes = judges (Yes acts) (verdict_of (Yes acts) v); other = tt; no_play = λ one law. tt }
+            by (comes.No line why) v f m = record {
+              said = tt;
+              yes = tt;
+              other = judges (No line why) (verdict_of (No line why) v);
+              -- a play's log has a yes, and so no no
+              no_play = λ one law tells P.
+                  (let yes = law P in
+                  let no = verdict_of (No line why) v tells P.name (P.is).text (P.is).held (subst (λ (s : Script). IsPlayScript P.name log (P.is).text s) P.read_so (P.is).is_script) in
+                  let z : Yes yes.0 ≡ No line why = one P.name log old (No line why) (Yes yes.0) no yes.1 in
+                  cc);
+            }
+            by (comes.Failed component fault) v f m = record {
+              said = tt;
+              yes = tt;
+              other = broken (fault_of_step (slice_get plan.parts component) (slice_get after component) fault)
+                  (causes.step_cause reads script old mid plan before A late new after (still_reads ∙ (A.still).reads) (still_names ∙ (A.still).unread) few many back C component fault f.0 f.1 m);
+              no_play = λ one law. tt;
+            }
+            by comes.OutOfMemory v f m = record { said = tt; yes = tt; other = broken Faults.OutOfMemory tt; no_play = λ one law. tt }
 
 -- ---- the theorem
 

@@ -23,7 +23,7 @@ use Rattle.audit_acts.specs.Asking.{IsPlain}
 use Rattle.audit_forms.specs.Audited.{Case, IsThere, Moment}
 use Rattle.run_audit.specs.Keeping.{IsQuietReply}
 use Rattle.run_audit.specs.Leading.{IsQuietLine}
-use Rattle.run_audit.proofs.Clientless.{AsksNone}
+use Rattle.history_laws.proofs.Clientless.{AsksNone}
 use Rattle.run_audit.proofs.Streams.{KeepsStreams}
 
 -- no file, no component and no header comes, and no work comes back

@@ -1,11 +1,8 @@
 -- Where all was asked and told, all rests; and where all rests, all was told.
-use Rattle.std.proofs.Common.{◌≡◌, inl, inr, ℕ, ◌≤◌, ◌<◌, false, List, [], ◌∷◌, ◌++◌, All, length, slice_get, Option, Some, refl, sym, ◌∙◌, ap, subst, arith}
-use Rattle.std.specs.Prelude.{flat_map}
+use Rattle.std.proofs.Common.{◌≡◌, inl, inr, ℕ, ◌≤◌, ◌<◌, false, List, [], All, length, Option, Some, subst, arith}
 use Rattle.std.proofs.lemmas.Bool.{cases_lt}
-use Rattle.std.proofs.lemmas.Option.{slice_get_within}
 use Rattle.omx_types.specs.declared.handle.Handle.{Handle}
 use Rattle.omx_types.specs.declared.state.State.TheVariants.{Loaded}
-use Rattle.il_machine.specs.declared.answer.Progress.{Progress}
 use Rattle.il_machine.specs.Acts.{Act, Reply}
 use Rattle.il_machine.specs.Run.{Run}
 use Rattle.il_machine.specs.World.{Component, World}
@@ -15,51 +12,22 @@ use Rattle.play_build_laws.specs.Stages.{IsStage, Joining}
 use Rattle.play_forms.specs.Plans.{PlanValue}
 use Rattle.play_plan_laws.specs.Assemblies.{IsReady, PlayFiles, assembly_of}
 use Rattle.play_plan_laws.specs.Endings.{IsAtEnd, IsPlayedOut}
-use Rattle.play_log.specs.Entries.{Entry, steps_of}
+use Rattle.play_log.specs.Entries.{steps_of}
 use Rattle.play_log.specs.Scenes.{HaveOwnNames, scene_of}
 use Rattle.play_log.proofs.Names.{run_of_names}
-use Rattle.play_result_laws.specs.Asked.{AreAllAt, acts_of, askings, told_by, tuned}
-use Rattle.play_history_laws.specs.Following.{IsLoadedAt}
+use Rattle.play_result_laws.specs.Asked.{told_by, tuned}
 use Rattle.play_history_laws.specs.Order.{Cursor}
 use Rattle.play_history_laws.specs.Askings.{IsPlanHistory}
-use Rattle.play_history_laws.specs.Requests.{AreRequested, IsOrdered, requests}
-use Rattle.play_history_laws.proofs.Askings.{link_is, many}
-use Rattle.play_history_laws.proofs.ListFronts.{times}
+use Rattle.play_history_laws.specs.Requests.{AreRequested, IsOrdered}
 use Rattle.play_history_laws.proofs.Ordered.{history_ordered}
-use Rattle.play_history_laws.proofs.Places as places
 use Rattle.play_history_laws.proofs.RequestedEnds.{all_rest, played_out}
-use Rattle.audit_order.specs.Steps.{IsComplete, OrderValue}
+use Rattle.audit_order.specs.Steps.{IsComplete}
 use Rattle.audit_forms.specs.Audited.{Case, IsResting, Moment}
 use Rattle.audit_forms.specs.Whole.{start_at}
+use Rattle.audit_laws.proofs.Saying.{nothing_left}
 use Rattle.audit_laws.proofs.Walking.{requested}
 use Rattle.run_audit.specs.Ending.{IsAtRest}
 use Rattle.run_audit.proofs.Way.{AreNamed, case}
-
-none_behind : (xs ys : List (Act × Reply)) → xs ++ ys ≡ [] → ys ≡ []
-none_behind [] ys e = e
-none_behind (x ∷ xs) ys e = absurd cc
-
--- without a component nothing is asked
-module _ (plan : PlanValue) (files : PlayFiles) (handles : List Handle) (w : World) (steps : List (Act × Reply)) (k : Cursor) (v : World) (G : IsPlanHistory plan files handles w steps k v) (none : length plan.parts ≡ 0) where
-  no_links : (links : List ℕ) (left : List (Act × Reply)) → AreRequested (tuned plan files) handles links left steps → (ls : List ℕ) → links ≡ ls → ls ≡ []
-  no_links links left R [] e = refl
-  no_links links left R (l ∷ ls) e =
-      let once = places.once_more plan files handles links l [] ls in
-      let same = ap (λ (t : List ℕ). times l t) e in
-      let O = places.late_of plan files handles links R.late l (omega (arith, same, once)) in
-      let g = (link_is plan files handles w steps k v G l O.0).giver_below in
-      absurd (omega (arith, g, none))
-
-  no_handles : (hs : List Handle) → handles ≡ hs → hs ≡ []
-  no_handles [] e = refl
-  no_handles (h ∷ hs) e = let m = many plan files handles w steps k v G in let z = ap (λ (t : List Handle). length t) e in absurd (omega (arith, m, z, none))
-
-  nothing_left : (links : List ℕ) (left : List (Act × Reply)) → AreRequested (tuned plan files) handles links left steps → left ≡ []
-  nothing_left links left R =
-      let e = no_links links left R links refl in
-      let h = no_handles handles refl in
-      none_behind (requests steps) left
-      (R.made ∙ ((λ j. flat_map (acts_of (tuned plan files) (h j)) (askings (e j)))))
 
 module _ (plan : PlanValue) (files : PlayFiles) (handles : List Handle) (w : World) (ready : IsReady plan files) (stage : IsStage (assembly_of plan files) (Joining (length plan.joints)) handles w) (own : HaveOwnNames plan.parts)
     (sinks : ℕ → Option (List ℕ)) (now : Moment) (N : AreNamed (case plan files handles w ready stage own sinks) (start_at plan w) now) (complete : IsComplete plan now.order) where

@@ -34,7 +34,7 @@ use Rattle.graph_acts.proofs.Worlds.{still_told}
 use Rattle.audit_forms.specs.Audited.{Case}
 use Rattle.run_audit.specs.Keeping.{IfCalled, PutsCalled, claimed_in, with_thing}
 use Rattle.run_audit.specs.Replaying.{AreCompared, HoldsObjects, HoldsWorks, IsStanding}
-use Rattle.run_audit.proofs.Clientless.{AsksNone, clientless_still}
+use Rattle.history_laws.proofs.Clientless.{AsksNone, clientless_still}
 use Rattle.run_audit.proofs.Compared.{compared_out, compared_stay}
 use Rattle.run_audit.proofs.Quiet.{IsStill}
 use Rattle.run_audit.proofs.Held.{AreApart, StaysTold, object_comes, object_goes, objects_stay, work_comes, works_stay}

@@ -1,5 +1,5 @@
 -- Behind a yes each sink's file is one that gives all its bytes.
-use Rattle.std.proofs.Common.{◌≡◌, ℕ, ◌<◌, List, length, slice_get, Option, Some, None, Result, Ok, Err, OnOk, refl, sym, ◌∙◌, subst, true}
+use Rattle.std.proofs.Common.{◌≡◌, ℕ, List, Option, Some, None, OnOk, refl, sym, ◌∙◌, subst, true}
 use Rattle.std.specs.List.{slice_index_or}
 use Rattle.std.proofs.lemmas.Option.{slice_get_within}
 use Rattle.outside_io.specs.declared.source.Source.{Ghosts as SourceGhosts}
@@ -10,11 +10,9 @@ use Rattle.script_lang.specs.declared.play_line.PartLine.{PartLine}
 use Rattle.script_lang.specs.declared.script.Script.{Script}
 use Rattle.play_forms.specs.Plans.{PlanValue}
 use Rattle.play_result_laws.specs.Files.{IsWriter}
-use Rattle.play_course.specs.Settling.{parts_of}
 use Rattle.compared_files.specs.Comparing.{ComparingValue, IsGivenToEnd}
 use Rattle.compared_files.proofs.Known.{known_bytes, known_ends}
 use Rattle.audit_files.specs.Compared.{AreCompared, IsComparedBy}
-use Rattle.run_audit.specs.declared.auditing.AuditFault.{AuditFault}
 use Rattle.run_audit.specs.declared.replaying.Replayed.{Replayed}
 use Rattle.run_audit.specs.declared.replaying.Replayed.TheVariants as comes
 use Rattle.run_audit.specs.Auditing.{outcome_of}

@@ -13,7 +13,7 @@ use Rattle.play_forms.specs.declared.plan_fault.PlanFault.{PlanFault}
 use Rattle.play_forms.specs.declared.plan_fault.PlanFault.TheVariants as Plans
 use Rattle.play_forms.specs.Plans.{IsFaultOfScript, IsFit, IsFitFault, IsPlanOfScript, PlanValue}
 use Rattle.play_result_laws.specs.Files.{IsReader, IsWriter, read_by, written_by}
-use Rattle.play_files.specs.Faults.{fault_of_plan}
+use Rattle.play_forms.specs.Faults.{fault_of_plan}
 use Rattle.play_files.specs.Left.{IsFittedTo}
 use Rattle.play_files.specs.Opening.{HasHead}
 use Rattle.play_course.specs.Settling.{parts_of}

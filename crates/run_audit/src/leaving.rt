@@ -30,38 +30,6 @@ use outside_io::Source;
 use play_graph::stop_graph;
 use stream_plan::Plan;
 
-/// The ends of the link of that number.
-fn ends_at(plan: &Plan, link: usize) -> Option<LinkEnds>
-    ensures { result ≡ link_at plan.now.parts (slice_get plan.now.joints link) (slice_get plan.now.flows link) }
-{
-    let Some(joint) = plan.joints().get(link) else {
-        return None;
-    };
-    let Some(flow) = plan.flows().get(link) else {
-        return None;
-    };
-    let Some(giver) = plan.parts().get(joint.giver as usize) else {
-        return None;
-    };
-    let Some(taker) = plan.parts().get(joint.taker as usize) else {
-        return None;
-    };
-    Some(LinkEnds {
-        output: PortName {
-            component: giver.name,
-            index: joint.output,
-        },
-        input: PortName {
-            component: taker.name,
-            index: joint.input,
-        },
-        taker: joint.taker,
-        format: flow.format,
-        count: joint.count,
-        size: joint.size,
-    })
-}
-
 /// Sets a port of the link.
 fn set_port(ends: &LinkEnds, port: PortName) -> TextAct
     ensures { result ≡ lines.SetPort port ends.now.format ends.now.count ends.now.size }
@@ -110,7 +78,7 @@ impl<S: Source> Replay<S, PlayClient> {
         ensures told { self.new.told ≡ self.old.told }
         ensures handles { self.new.handles ≡ self.old.handles }
     {
-        let Some(ends) = ends_at(&self.plan, link) else {
+        let Some(ends) = LinkEnds::at(&self.plan, link) else {
             return;
         };
         self.try_act(set_port(&ends, ends.output));

@@ -30,7 +30,7 @@ use Rattle.trace_run.specs.declared.names.NamedComponent.{NamedComponent}
 use Rattle.trace_run.specs.declared.slots.Slot.{Slot}
 use Rattle.trace_run.specs.Standing.{Parts, holding, Hands, IsNamed, IsSeated, HaveOwnNumbers, IsOfPort, AreOfPorts, CanEnd}
 use Rattle.trace_run.proofs.Made.{made_by}
-use Rattle.trace_run.proofs.Numbered.{numbered_step}
+use Rattle.history_laws.proofs.Numbered.{numbered_step}
 use Rattle.trace_run.proofs.SlotLists.{rising_below, rising_apart}
 
 -- ---- components

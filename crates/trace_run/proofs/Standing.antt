@@ -26,7 +26,7 @@ use Rattle.trace_run.specs.Standing.{Parts, names_in, slot_numbered, holding, Ha
 use Rattle.history_laws.proofs.MadeFor.{made_grows}
 use Rattle.trace_run.proofs.Made.{IsHome, made_by, made_step}
 use Rattle.history_laws.proofs.Cores.{NoneGot, NoneTaken}
-use Rattle.trace_run.proofs.Numbered.{numbered_step}
+use Rattle.history_laws.proofs.Numbered.{numbered_step}
 use Rattle.history_laws.specs.ClientHeaders.{IsClients, taken_in}
 use Rattle.history_laws.proofs.ClientHeaders.{steps_clients}
 use Rattle.history_laws.proofs.KeyLaw.{steps_key}

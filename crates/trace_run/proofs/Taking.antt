@@ -27,7 +27,7 @@ use Rattle.il_graph.specs.HandedIn.{IsHandedOut, IsNoteHandedOut}
 use Rattle.history_laws.proofs.Cores.{NoneTaken}
 use Rattle.trace_run.proofs.Ends.{some_and, seated_there, seated_here, apart_here, ports_kept, ports_given}
 use Rattle.trace_run.proofs.Made.{IsHome}
-use Rattle.trace_run.proofs.Numbered.{numbered_step}
+use Rattle.history_laws.proofs.Numbered.{numbered_step}
 use Rattle.trace_run.proofs.Reseated.{seated_taken}
 use Rattle.act_text.specs.declared.reply.TextReply.{TextReply}
 use Rattle.act_text.specs.declared.reply.TextReply.TheVariants as texts

@@ -1,7 +1,8 @@
 -- The lines of a trace, written one after the other.
-use Rattle.std.proofs.Common.{◌≡◌, ◌≤◌, ◌<◌, ◌+◌, inl, inr, ℕ, List, [], ◌∷◌, ◌++◌, take, refl, subst, append_assoc, append-nil, ap, ◌∙◌, sym, arith, Option, Result, Ok, Err, Some, slice_get, length, get_or}
+use Rattle.std.proofs.Common.{◌≡◌, ◌≤◌, ◌<◌, ◌+◌, inl, inr, ℕ, List, [], ◌∷◌, ◌++◌, take, refl, subst, append_assoc, append-nil, ap, ◌∙◌, sym, arith, Option, Result, Ok, Err, Some, slice_get, length, length-take, get_or}
 use Rattle.std.specs.Prelude.{codes, OnOk, OnErr, IfErr}
-use Rattle.std.proofs.lemmas.List.{take_more}
+use Rattle.std.proofs.lemmas.List.{take_all, take_more}
+use Rattle.std.proofs.lemmas.Option.{slice_get_read}
 use Rattle.std.specs.Io.KnownBytes.{append_known}
 use Rattle.omx_types.specs.declared.fault.Fault.{Fault}
 use Rattle.omx_types.specs.declared.fault.Fault.TheVariants.{WriteFault, OutOfMemory}
@@ -70,7 +71,7 @@ prints_more now next lines number line before piece at text last S lead count em
       lead = subst (λ (p : List ℕ). Lead 1 at (lines ++ line ∷ []) (text ++ p) x.0) same (lead_then 1 at lines text last line reply x.0 lead x.2);
     }
 
-pub carries_more : (from now next : OnDesk) (lines : List TraceLine) (number : ℕ) (line : TraceLine) (before piece waiting rest : List ℕ) (old mid new : Option (List ℕ)) → Carries from now lines waiting old mid
+carries_more : (from now next : OnDesk) (lines : List TraceLine) (number : ℕ) (line : TraceLine) (before piece waiting rest : List ℕ) (old mid new : Option (List ℕ)) → Carries from now lines waiting old mid
     → number ≡ length lines + 1 → before ≡ [] → PrintsLine now next number line before piece → PassesOn mid new waiting piece rest → Carries from next (lines ++ line ∷ []) rest old new
 carries_more from now next lines number line before piece waiting rest old mid new carries count empty prints (more, is, parts) at S =
     let (gone, last, T, lead, got) = carries at S in
@@ -84,7 +85,7 @@ carries_more from now next lines number line before piece waiting rest old mid n
     )
 
 -- a line more
-pub next_line : (lines : List TraceLine) (place : ℕ) (line : TraceLine) → place < length lines → line ≡ get_or lines place line → take place lines ++ line ∷ [] ≡ take (place + 1) lines
+next_line : (lines : List TraceLine) (place : ℕ) (line : TraceLine) → place < length lines → line ≡ get_or lines place line → take place lines ++ line ∷ [] ≡ take (place + 1) lines
 next_line lines place line below is = ap (λ (l : TraceLine). take place lines ++ l ∷ []) is ∙ sym (take_more lines place line below)
 
 pub err_then : {T E : Type 0} (P Q : E → Type 0) (r : Result T E) → IfErr r P → ((e : E) → P e → Q e) → IfErr r Q
@@ -110,7 +111,7 @@ err_so (Err error) h = h
 -- ---- the end of the lines
 
 -- what waited was written
-pub carried_all : (from now : OnDesk) (lines all : List TraceLine) (waiting : List ℕ) (old mid new : Option (List ℕ)) → Carries from now lines waiting old mid → lines ≡ all → new ≡ append_known mid waiting
+carried_all : (from now : OnDesk) (lines all : List TraceLine) (waiting : List ℕ) (old mid new : Option (List ℕ)) → Carries from now lines waiting old mid → lines ≡ all → new ≡ append_known mid waiting
     → FromEach from (λ at. GotBody at all old new)
 carried_all from now lines all waiting old mid new carries same is at S =
     let (gone, last, T, lead, got) = carries at S in (
@@ -132,14 +133,14 @@ is_past now next all place line last there S (inr (reply, leads)) =
     inr (rw there (reply, after, answered, T))
 
 -- memory was wanting for the next line, and what waited was written
-pub carried_some : (from now next : OnDesk) (all : List TraceLine) (place : ℕ) (line : TraceLine) (waiting : List ℕ) (old mid new : Option (List ℕ)) (before after : ℕ) → Carries from now (take place all) waiting old mid
+carried_some : (from now next : OnDesk) (all : List TraceLine) (place : ℕ) (line : TraceLine) (waiting : List ℕ) (old mid new : Option (List ℕ)) (before after : ℕ) → Carries from now (take place all) waiting old mid
     → slice_get all place ≡ Some line → IsCutAt now next line → new ≡ append_known mid waiting → FromEach from (λ at. IsBroken at all next old new before after OutOfMemory)
 carried_some from now next all place line waiting old mid new before after carries there cut is at S =
     let (gone, last, T, lead, got) = carries at S in
     (place, gone ++ waiting, last, lead, is ∙ ap (λ t. append_known t waiting) got ∙ append_known-twice old gone waiting, is_past now next all place line last there T cut)
 
 -- the write of what waited failed
-pub carried_waiting : (from now next : OnDesk) (all : List TraceLine) (place : ℕ) (waiting : List ℕ) (old mid new : Option (List ℕ)) (before after : ℕ) (fault : Fault) → Carries from now (take place all) waiting old mid
+carried_waiting : (from now next : OnDesk) (all : List TraceLine) (place : ℕ) (waiting : List ℕ) (old mid new : Option (List ℕ)) (before after : ℕ) (fault : Fault) → Carries from now (take place all) waiting old mid
     → AppendsFront mid new waiting → Rose before after → fault ≡ WriteFault → FromEach from (λ at. IsBroken at all next old new before after fault)
 carried_waiting from now next all place waiting old mid new before after fault carries front rose is at S =
     let (gone, last, T, lead, got) = carries at S in
@@ -147,7 +148,7 @@ carried_waiting from now next all place waiting old mid new before after fault c
     (rose, (place, gone ++ waiting, last, lead, front-after old mid new gone waiting got front))
 
 -- a write failed as the next line came behind what waited
-pub carried_front : (from now next : OnDesk) (all : List TraceLine) (place number : ℕ) (line : TraceLine) (cleared piece waiting : List ℕ) (old mid new : Option (List ℕ)) (before after : ℕ) (fault : Fault)
+carried_front : (from now next : OnDesk) (all : List TraceLine) (place number : ℕ) (line : TraceLine) (cleared piece waiting : List ℕ) (old mid new : Option (List ℕ)) (before after : ℕ) (fault : Fault)
     → Carries from now (take place all) waiting old mid → number ≡ length (take place all) + 1 → cleared ≡ [] → take place all ++ line ∷ [] ≡ take (place + 1) all → PrintsLine now next number line cleared piece
     → AppendsFront mid new (waiting ++ piece) → Rose before after → fault ≡ WriteFault → FromEach from (λ at. IsBroken at all next old new before after fault)
 carried_front from now next all place number line cleared piece waiting old mid new before after fault carries count empty more prints front rose is at S =
@@ -159,13 +160,47 @@ carried_front from now next all place number line cleared piece waiting old mid 
     subst (λ (f : Fault). IsBroken at all next old new before after f) (sym is)
     (rose, (place + 1, gone ++ (waiting ++ piece), x.last, text, front-after old mid new gone (waiting ++ piece) got front))
 
--- ---- the whole trace
+-- ---- the calls
 
-pub rose_later : (before mid after : ℕ) → before ≤ mid → Rose mid after → Rose before after
+rose_later : (before mid after : ℕ) → before ≤ mid → Rose mid after → Rose before after
 rose_later before mid after later rose = grind arith
 
 pub rose_before : (before mid after : ℕ) → mid ≤ after → Rose before mid → Rose before after
 rose_before before mid after later rose = grind arith
+
+-- the lines before that place are written, or wait
+module _ (from now : OnDesk) (all : List TraceLine) (place : ℕ) (waiting : List ℕ) (old mid new : Option (List ℕ)) (carries : Carries from now (take place all) waiting old mid) where
+  -- they were all, and what waited was to be written
+  pub all_written : length all ≤ place → (r : Result (Unit {0}) Fault) → OnOk r (new ≡ append_known mid waiting) → OnOk r (FromEach from (λ at. GotBody at all old new))
+  all_written past r whole = ok_so r whole (carried_all from now (take place all) all waiting old mid new carries (take_all place all past))
+
+  pub waiting_broken : (next : OnDesk) (before between after : ℕ) → before ≤ between → AppendsFront mid new waiting → (r : Result (Unit {0}) Fault) → IfErr r (λ fault. (fault ≡ WriteFault) × Rose between after)
+      → IfErr r (λ fault. FromEach from (λ at. IsBroken at all next old new before after fault))
+  waiting_broken next before between after later front r fails =
+      err_then (λ (fault : Fault). (fault ≡ WriteFault) × Rose between after) _ r fails
+      (λ fault is. carried_waiting from now next all place waiting old mid new before after fault carries front (rose_later before between after later is.1) is.0)
+
+  -- the line at that place
+  module _ (next : OnDesk) (line : TraceLine) (below : place < length all) (its : line ≡ get_or all place line) where
+    pub line_cut : IsCutAt now next line → new ≡ append_known mid waiting → (before after : ℕ) → FromEach from (λ at. IsBroken at all next old new before after OutOfMemory)
+    line_cut cut whole before after = carried_some from now next all place line waiting old mid new before after carries (slice_get_read all (length all) place line refl below its) cut whole
+
+    module _ (cleared piece : List ℕ) (empty : cleared ≡ []) (prints : PrintsLine now next (place + 1) line cleared piece) where
+      count : place + 1 ≡ length (take place all) + 1
+      count = omega (arith, length-take place all)
+
+      pub line_broken : (before between after : ℕ) → before ≤ between → AppendsFront mid new (waiting ++ piece) → (r : Result (Unit {0}) Fault) → IfErr r (λ fault. (fault ≡ WriteFault) × Rose between after)
+          → IfErr r (λ fault. FromEach from (λ at. IsBroken at all next old new before after fault))
+      line_broken before between after later front r fails =
+          err_then (λ (fault : Fault). (fault ≡ WriteFault) × Rose between after) _ r fails
+          (λ fault is. carried_front from now next all place (place + 1) line cleared piece waiting old mid new before after fault carries count empty (next_line all place line below its) prints front (rose_later before between after later is.1) is.0)
+
+      pub line_carried : (rest : List ℕ) → PassesOn mid new waiting piece rest → Carries from next (take (place + 1) all) rest old new
+      line_carried rest passes =
+          subst (λ (lines : List TraceLine). Carries from next lines rest old new) (next_line all place line below its)
+          (carries_more from now next (take place all) (place + 1) line cleared piece waiting rest old mid new carries count empty prints passes)
+
+-- ---- the whole trace
 
 -- no line was written
 pub none_got : (units : ℕ) (lines : List TraceLine) (old new : Option (List ℕ)) → new ≡ old → GotLines (Trace units lines) old new

@@ -1,8 +1,7 @@
 -- How a header of a work comes back, by its port's way, is how it does in the machine.
-use Rattle.std.proofs.Common.{◌≡◌, ℕ, ◌+◌, ◌-◌, ◌/◌, ◌<◌, ◌≤◌, Bool, true, false, not, ◌&&◌, ◌||◌, nat_eq, nat_lt, if◌then◌else◌, List, [], ◌∷◌, ◌++◌, length, refl, ap, sym, ◌∙◌, subst, append_assoc, arith}
+use Rattle.std.proofs.Common.{◌≡◌, ℕ, ◌+◌, ◌-◌, ◌/◌, ◌≤◌, Bool, true, false, not, ◌&&◌, ◌||◌, nat_eq, nat_lt, if◌then◌else◌, List, [], ◌∷◌, ◌++◌, length, refl, ap, sym, ◌∙◌, arith}
 use Rattle.std.specs.Prelude.{Option, Some, None, is_none, is_some}
 use Rattle.omx_types.specs.Formats.{frame_bytes_of}
-use Rattle.omx_types.specs.declared.command.Note.{Note}
 use Rattle.il_machine.specs.declared.port.Mark.{Mark}
 use Rattle.il_machine.specs.declared.port.PortKey.{PortKey}
 use Rattle.il_machine.specs.Lists.{holds_at}
@@ -12,7 +11,6 @@ use Rattle.il_machine.specs.Claims.{CarriedHeader}
 use Rattle.il_machine.specs.Stepping.{WorkDone, format_at}
 use Rattle.il_machine.specs.Finishing.{Landing, Again, Onward, Noted, carries_on, ends_by, is_an_input, is_cleared, is_finished, is_own, is_returning, is_tunnelled, landing, landing_note, load_after, mark_after, mark_in, mark_on, notes_of_header, notes_of_headers}
 use Rattle.il_machine.specs.Stock.{Stocked}
-use Rattle.il_machine.specs.Whole.{Noticed}
 use Rattle.header_core.specs.BufferHeader.{BufferHeader}
 use Rattle.work_landing.specs.declared.back.Back.{Back}
 use Rattle.work_landing.specs.declared.back.Known.{Known}

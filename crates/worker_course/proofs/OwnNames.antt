@@ -1,24 +1,19 @@
 -- The components of a play's script have names of their own, so its gates tell of them.
-use Rattle.std.proofs.Common.{◌≡◌, ℕ, List, Option, subst}
-use Rattle.std.specs.Prelude.{IsTrue}
+use Rattle.std.proofs.Common.{ℕ, List, Option, subst}
 use Rattle.outside_io.specs.Files.{Outside}
 use Rattle.script_lang.specs.PlayScripts.{IsPlayScript}
 use Rattle.script_lang.specs.declared.play_line.PartLine.{PartLine}
 use Rattle.script_lang.specs.declared.script.Script.{Script}
-use Rattle.script_lang.specs.declared.script.Script.TheVariants.{Play, Trace}
 use Rattle.play_forms.specs.Plans.{IsPlanOfScript, PlanValue}
 use Rattle.play_log.specs.Scenes.{HaveOwnNames}
 use Rattle.play_result_laws.specs.Gates.{GatesTellLog}
 use Rattle.play_result_laws.proofs.OwnNames.{own_names}
 use Rattle.play_course.specs.Outcomes.{HoldsTold}
 use Rattle.play_course.specs.Settling.{parts_of}
-
-planned_parts : (script : Script) (plan : PlanValue) → IsPlanOfScript script plan → plan.parts ≡ parts_of script
-planned_parts (Play units parts links) plan P = P.parts_of
-planned_parts (Trace units lines) plan P = absurd P
+use Rattle.play_course.proofs.Logged.{parts_so}
 
 pub names_own : (name log text : List ℕ) (script : Script) → IsPlayScript name log text script → (plan : PlanValue) → IsPlanOfScript script plan → HaveOwnNames (parts_of script)
-names_own name log text script S plan P = subst HaveOwnNames (planned_parts script plan P) (own_names name log text script plan S P)
+names_own name log text script S plan P = subst HaveOwnNames (parts_so script plan P) (own_names name log text script plan S P)
 
 pub told_own : {G : Type 0} (counts : G → Option (ℕ → ℕ)) (gates : List G) (parts : List PartLine) (log : List ℕ) (new : Outside) → HaveOwnNames parts
     → HoldsTold (λ (text : List ℕ). HaveOwnNames parts → GatesTellLog counts gates parts text) log new → HoldsTold (GatesTellLog counts gates parts) log new

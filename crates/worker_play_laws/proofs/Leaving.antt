@@ -32,7 +32,7 @@ use Rattle.play_course.specs.Running.{AreSameFiles, HasTaken, IsRunCause}
 use Rattle.play_run.specs.Playing.{ToldAlike}
 use Rattle.worker_play_laws.specs.Files.{ShowsSince}
 use Rattle.worker_play_laws.specs.Leaving.{IsLeftWith, IsSteadyRun}
-use Rattle.worker_play_laws.proofs.Coming.{are_same, does_show, has_taken, seen}
+use Rattle.play_run.proofs.Comings.{are_same, does_show, has_taken, seen}
 use Rattle.worker_play_laws.proofs.Failing.{failed_below, told_cause}
 use Rattle.worker_play_laws.proofs.Posts.{Post, PostsStay, post_of, run_posts, was_there}
 use Rattle.worker_play_laws.proofs.Told.{run_told}

@@ -1,5 +1,6 @@
 use Rattle.std.proofs.Common.{◌≡◌, ℕ, ◌<◌, Some, length, slice_get, refl, subst, ◌∙◌, arith}
 use Rattle.std.proofs.lemmas.Option.{slice_get_read}
+use Rattle.std.proofs.lemmas.Result.{err_from_is_err_and}
 use Rattle.script_lang.specs.declared.play_line.PartLine.{PartLine}
 use Rattle.play_result_laws.specs.Files.{written_by}
 use Rattle.play_files.proofs.Asking.{asked_all, asked_more, asked_same}
@@ -8,10 +9,10 @@ use Rattle.audit_files.specs.Compared.{HaveCompared}
 use Rattle.audit_files.proofs.Refusals.{file_sooner, refused_sooner}
 use Rattle.audit_files.proofs.Writing.{other_more, sink_more}
 use Rattle.audit_files.proofs.comparing.compare_all.Goals as goal
-use Rattle.audit_files.proofs.comparing.compare_all.Goals.{in-Some+in-Ok, in_default}
+use Rattle.audit_files.proofs.comparing.compare_all.Goals.{in-Some+in_ok-src, in_default}
 
-pub put-requires-clause-free : goal.put-requires-clause-free
-put-requires-clause-free g c =
+pub put_file-requires-clause-free : goal.put_file-requires-clause-free
+put_file-requires-clause-free g c =
     let parts = c.args.parts.now in
     let count = c.loop-place.place in
     let there : slice_get parts count ≡ Some c.index-parts-place.result = slice_get_read parts _ count c.index-parts-place.result refl c.loop-place-test.true c.index-parts-place.is in
@@ -28,11 +29,11 @@ loop-place-preserved g c =
     let there : slice_get parts count ≡ Some c.index-parts-place.result = slice_get_read parts _ count c.index-parts-place.result refl c.loop-place-test.true c.index-parts-place.is in
     let within : count < length c.loop-place.files = (let a = c.loop-place.auto.files in let b = c.requires.many in let d = c.loop-place-test.true in omega arith) in
     elim c.match-written_name.branch [
-      | in-Some+in-Ok w ↦ rw (w.media-is, w.files-is) (record {
-        still = still_then old mid _ i.still w.in-Ok.ensures.still;
-        asked = asked_more (λ (part : PartLine). written_by part.form) old mid _ parts count c.index-parts-place.result w.in-Some.name.now (w.in-Ok.ensures.still).goes_on there w.in-Some.ensures.some i.asked (w.in-Ok.ensures.asked (λ n. cc));
-        have = rw w.put.ensures (sink_more g.M.Src.Source old parts planned count c.args.files.now c.loop-place.files i.have c.index-parts-place.result there w.in-Some.name.now _ w.in-Some.ensures.some
-            (rw w.new.ensures (refl, refl, file_sooner old mid i.still w.in-Some.name.now _ w.in-Ok.ensures.opened)) within);
+      | in-Some+in_ok-src w ↦ rw (w.media-is, w.files-is) (record {
+        still = still_then old mid _ i.still w.in_ok-src.ensures.still;
+        asked = asked_more (λ (part : PartLine). written_by part.form) old mid _ parts count c.index-parts-place.result w.in-Some.name.now (w.in_ok-src.ensures.still).goes_on there w.in-Some.ensures.some i.asked (w.in_ok-src.ensures.asked (λ n. cc));
+        have = rw w.put_file.ensures (sink_more g.M.Src.Source old parts planned count c.args.files.now c.loop-place.files i.have c.index-parts-place.result there w.in-Some.name.now _ w.in-Some.ensures.some
+            (rw w.new.ensures (refl, refl, file_sooner old mid i.still w.in-Some.name.now _ w.in_ok-src.ensures.opened)) within);
       })
       | in_default w ↦ rw (w.media-is, w.files-is) (record {
         still = i.still;
@@ -51,23 +52,25 @@ pub returns-clause-asked : goal.returns-clause-asked
 returns-clause-asked g c =
     asked_all (λ (part : PartLine). written_by part.form) (g.M.Media.outside c.args.media.now) (g.M.Media.outside c.loop-place.media) c.args.parts.now c.loop-place.place (let a = c.loop-place-test.false in omega arith) c.loop-place.invariant.asked
 
-pub returns-in-Err-clause-met : goal.returns-in-Err-clause-met
-returns-in-Err-clause-met g c =
+pub returns-in_err-src-clause-met : goal.returns-in_err-src-clause-met
+returns-in_err-src-clause-met g c =
     let i = c.loop-place.invariant in
     let old = g.M.Media.outside c.args.media.now in
     let mid = g.M.Media.outside c.loop-place.media in
     let parts = c.args.parts.now in
     let count = c.loop-place.place in
     let there : slice_get parts count ≡ Some c.index-parts-place.result = slice_get_read parts _ count c.index-parts-place.result refl c.loop-place-test.true c.index-parts-place.is in
-    let refused = c.in-Err.ensures.refused in (
+    let refused = c.in_err-src.ensures.refused in
+    let p = err_from_is_err_and c.from_residual.result c.from_residual.ensures.1 in
+    rw (p.1, p.2) (
       count,
       record {
         part = c.index-parts-place.result;
         there = there;
         name = c.in-Some.name.now;
         writes = c.in-Some.ensures.some;
-        refused = refused_sooner old mid i.still (c.index-parts-place.result).line c.in-Some.name.now _ c.in-Err.fault refused;
+        refused = refused_sooner old mid i.still (c.index-parts-place.result).line c.in-Some.name.now _ c.in_err-src.field-0.0 refused;
       },
       i.have,
-      λ n. asked_more (λ (part : PartLine). written_by part.form) old mid _ parts count c.index-parts-place.result c.in-Some.name.now refused.goes_on there c.in-Some.ensures.some i.asked (c.in-Err.ensures.asked (λ same. n (cc))),
+      λ n. asked_more (λ (part : PartLine). written_by part.form) old mid _ parts count c.index-parts-place.result c.in-Some.name.now refused.goes_on there c.in-Some.ensures.some i.asked (c.in_err-src.ensures.asked (λ same. n (cc))),
     )

@@ -1,4 +1,4 @@
-use Rattle.std.proofs.Common.{◌≡◌, ◌≤◌, List, length, inl, inr, refl, sym, ◌∙◌, subst, arith}
+use Rattle.std.proofs.Common.{◌≤◌, List, length, inl, inr, refl, ◌∙◌, subst, arith}
 use Rattle.std.proofs.lemmas.Option.{slice_get_within}
 use Rattle.script_lang.specs.declared.play_line.PartLine.{PartLine}
 use Rattle.script_lang.specs.declared.script.Script.{Script}
@@ -30,33 +30,33 @@ unplanned : (script : Script) (plan : PlanValue) (old : Outside) → IsPlanOfScr
 unplanned script plan old is = inl (record { why = OutOfMemory; is = memory_fault script plan is; told = refl; still = still old; unasked = refl })
 
 pub returns-in_default-clause-unopened : goal.returns-in_default-clause-unopened
-returns-in_default-clause-unopened g c = unplanned c.args.script.now c.in-Ok.plan (g.M.Media.outside c.args.media.now) c.in-Ok.ensures.plan
+returns-in_default-clause-unopened g c = unplanned c.args.script.now c.in_ok-plan.plan (g.M.Media.outside c.args.media.now) c.in_ok-plan.ensures.plan
 
 pub returns-in_default-with_capacity-clause-unopened : goal.returns-in_default-with_capacity-clause-unopened
-returns-in_default-with_capacity-clause-unopened g c = unplanned c.args.script.now c.in-Ok.plan (g.M.Media.outside c.args.media.now) c.in-Ok.ensures.plan
+returns-in_default-with_capacity-clause-unopened g c = unplanned c.args.script.now c.in_ok-plan.plan (g.M.Media.outside c.args.media.now) c.in_ok-plan.ensures.plan
 
 pub returns-in-Ok-compare_planned-clause-opened : goal.returns-in-Ok-compare_planned-clause-opened
 returns-in-Ok-compare_planned-clause-opened g c =
     let R = c.requires in
-    let S = scripted R.0 R.1 R.2 c.args.script.now c.in-Ok.plan R.3 c.in-Ok.ensures.plan in
-    all_compared g.M.Src.Source c.args.script.now (g.M.Media.outside c.args.media.now) (g.M.Media.outside c.compare_planned.new.media) c.in-Ok.plan c.compare_planned.new.plan
-    c.compare_planned.new.heads.items c.compare_planned.new.files.items c.in-Ok.ensures.plan S c.in-Ok-compare_planned.ensures.whole
+    let S = scripted R.0 R.1 R.2 c.args.script.now c.in_ok-plan.plan R.3 c.in_ok-plan.ensures.plan in
+    all_compared g.M.Src.Source c.args.script.now (g.M.Media.outside c.args.media.now) (g.M.Media.outside c.compare_planned.new.media) c.in_ok-plan.plan c.compare_planned.new.plan
+    c.compare_planned.new.heads.items c.compare_planned.new.files.items c.in_ok-plan.ensures.plan S c.in-Ok-compare_planned.ensures.whole
 
-pub returns-in-Err-compare_planned-clause-unopened : goal.returns-in-Err-compare_planned-clause-unopened
-returns-in-Err-compare_planned-clause-unopened g c =
+pub returns-in-Err-clause-unopened : goal.returns-in-Err-clause-unopened
+returns-in-Err-clause-unopened g c =
     let old = g.M.Media.outside c.args.media.now in
     let mid = g.M.Media.outside c.compare_planned.new.media in
     let new = g.M.Media.outside c.close_compared.new.media in
-    let planned = c.in-Ok.plan in
+    let planned = c.in_ok-plan.plan in
     let plan = c.compare_planned.new.plan in
     let heads = c.compare_planned.new.heads.items in
     let files = c.compare_planned.new.files.items in
-    let fault = c.in-Err-compare_planned.fault in
+    let fault = c.in-Err.fault in
     inr (
       planned,
-      c.in-Ok.ensures.plan,
-      elim c.in-Err-compare_planned.ensures.stopped [
-        | inl A ↦
+      c.in_ok-plan.ensures.plan,
+      elim c.in-Err.ensures.stopped [
+        | inl (inl A) ↦
             let few : A.place ≤ length planned.parts = (let b = slice_get_within planned.parts A.place (A.met).part (A.met).there in omega arith) in
             let S = closed_still g.M.Src.Source files mid new (read_each g.M.Src.Source old planned.parts A.place heads files A.read few) c.close_compared.ensures in
             inl (record {
@@ -65,7 +65,7 @@ returns-in-Err-compare_planned-clause-unopened g c =
               before = have_heads (file_seen g.M.Src.Source (compared g.M.Src.Source)) files old planned.parts A.place heads A.read few;
               met = record { part = (A.met).part; there = (A.met).there; name = (A.met).name; reads = (A.met).reads; refused = source_refused_later (A.met).part.line (A.met).name old mid new fault S (A.met).refused; asked = λ n. c.close_compared.ensures.openings ∙ (A.met).asked n };
             })
-        | inr (inl A) ↦
+        | inl (inr A) ↦
             let S = closed_still g.M.Src.Source files mid new (read_each g.M.Src.Source old planned.parts (length planned.parts) heads files A.read (omega arith)) c.close_compared.ensures in
             inr (inl (record {
               heads = heads;
@@ -78,7 +78,7 @@ returns-in-Err-compare_planned-clause-unopened g c =
               still = still_then old mid new A.still S;
               asked = c.close_compared.ensures.openings ∙ A.asked;
             }))
-        | inr (inr A) ↦
+        | inr A ↦
             let G = A.gone in
             let refused = (A.met).refused in
             let S = closed_still g.M.Src.Source files mid new (compared_each g.M.Src.Source old plan.parts plan.frames A.place heads G.before files G.read G.have) c.close_compared.ensures in

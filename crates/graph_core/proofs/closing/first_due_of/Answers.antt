@@ -1,4 +1,4 @@
-use Rattle.std.proofs.Common.{◌≡◌, ◌<◌, length, slice_get, is_some, Option, Some, None, option_map, refl, sym, ◌∙◌, ap, subst}
+use Rattle.std.proofs.Common.{◌≡◌, ◌<◌, length, slice_get, is_some, Option, Some, None, option_map, refl, sym, ◌∙◌, ap, subst, arith}
 use Rattle.std.proofs.lemmas.Option.{slice_get-get_or}
 use Rattle.bit_set.specs.Members.{IsNext}
 use Rattle.il_machine.specs.Due.{Thing, due_in}
@@ -11,6 +11,33 @@ use Rattle.graph_core.proofs.Happens.{first_found, first_none, none_more}
 use Rattle.graph_core.proofs.Marking.{marked_less, none_to, none_left}
 use Rattle.graph_core.proofs.closing.first_due_of.Goals.{then-is_calm, else-is_calm+in_default-due_in}
 use Rattle.graph_core.proofs.closing.first_due_of.Goals as goal
+
+pub loop-place-init : goal.loop-place-init
+loop-place-init g c = record { marks = c.requires.marks; before = λ k e b at. absurd (omega (arith, b)) }
+
+pub bounds-components-place : goal.bounds-components-place
+bounds-components-place g c = c.loop-place.invariant.marks.there c.in-Some.place c.in-Some.ensures.2
+
+pub remove-requires : goal.remove-requires
+remove-requires g c = c.in-Some.ensures.1
+
+pub returns-in-Some-due_in-clause-within : goal.returns-in-Some-due_in-clause-within
+returns-in-Some-due_in-clause-within g c = c.loop-place.invariant.marks.there c.in-Some.place c.in-Some.ensures.2
+
+pub returns-in-Some-due_in-clause-marks : goal.returns-in-Some-due_in-clause-marks
+returns-in-Some-due_in-clause-marks g c = c.loop-place.invariant.marks
+
+pub overflow_add-from : goal.overflow_add-from
+overflow_add-from g c = let b = c.in-Some.ensures.1 in omega (arith, b)
+
+pub loop-place-smaller : goal.loop-place-smaller
+loop-place-smaller g c =
+    let a = c.in-Some.ensures.0 in
+    let b = c.in-Some.ensures.1 in
+    omega (arith, a, b)
+
+pub returns-clause-marks : goal.returns-clause-marks
+returns-clause-marks g c = c.loop-place.invariant.marks
 
 pub due_in-requires : goal.due_in-requires
 due_in-requires g c =

@@ -26,27 +26,27 @@ unplanned : (script : Script) (plan : PlanValue) (old : Outside) → IsPlanOfScr
 unplanned script plan old is = inl (record { why = OutOfMemory; is = memory_fault script plan is; told = refl; still = still old; unasked = refl })
 
 pub returns-in_default-clause-unopened : goal.returns-in_default-clause-unopened
-returns-in_default-clause-unopened g c = unplanned c.args.script.now c.in-Ok.plan (g.M.Media.outside c.args.media.now) c.in-Ok.ensures.plan
+returns-in_default-clause-unopened g c = unplanned c.args.script.now c.in_ok-plan.plan (g.M.Media.outside c.args.media.now) c.in_ok-plan.ensures.plan
 
 pub returns-in_default-with_capacity-clause-unopened : goal.returns-in_default-with_capacity-clause-unopened
-returns-in_default-with_capacity-clause-unopened g c = unplanned c.args.script.now c.in-Ok.plan (g.M.Media.outside c.args.media.now) c.in-Ok.ensures.plan
+returns-in_default-with_capacity-clause-unopened g c = unplanned c.args.script.now c.in_ok-plan.plan (g.M.Media.outside c.args.media.now) c.in_ok-plan.ensures.plan
 
 pub returns-in-Ok-open_planned-clause-opened : goal.returns-in-Ok-open_planned-clause-opened
 returns-in-Ok-open_planned-clause-opened g c =
     let seen = file_seen g.M.Src.Source g.M.Snk.Sink in
     let old = g.M.Media.outside c.args.media.now in
     let new = g.M.Media.outside c.open_planned.new.media in
-    let planned = c.in-Ok.plan in
+    let planned = c.in_ok-plan.plan in
     let plan = c.open_planned.new.plan in
     let heads = c.open_planned.new.heads.items in
     let files = c.open_planned.new.files.items in
     let R = c.requires in
-    let S = scripted R.0 R.1 R.2 c.args.script.now planned R.3 c.in-Ok.ensures.plan in
+    let S = scripted R.0 R.1 R.2 c.args.script.now planned R.3 c.in_ok-plan.ensures.plan in
     let W = c.in-Ok-open_planned.ensures.whole in
     record {
       planned = planned;
       heads = heads;
-      is_plan = c.in-Ok.ensures.plan;
+      is_plan = c.in_ok-plan.ensures.plan;
       fitted = W.fitted;
       fit = W.fit;
       still = W.still;
@@ -57,23 +57,23 @@ returns-in-Ok-open_planned-clause-opened g c =
       files_are = are_files seen old new planned plan heads files W S;
     }
 
-pub returns-in-Err-open_planned-clause-unopened : goal.returns-in-Err-open_planned-clause-unopened
-returns-in-Err-open_planned-clause-unopened g c =
+pub returns-in-Err-clause-unopened : goal.returns-in-Err-clause-unopened
+returns-in-Err-clause-unopened g c =
     let seen = file_seen g.M.Src.Source g.M.Snk.Sink in
     let old = g.M.Media.outside c.args.media.now in
     let mid = g.M.Media.outside c.open_planned.new.media in
     let new = g.M.Media.outside c.close_files.new.media in
-    let planned = c.in-Ok.plan in
+    let planned = c.in_ok-plan.plan in
     let plan = c.open_planned.new.plan in
     let heads = c.open_planned.new.heads.items in
     let files = c.open_planned.new.files.items in
     let R = c.requires in
-    let fault = c.in-Err-open_planned.fault in
+    let fault = c.in-Err.fault in
     inr (
       planned,
-      c.in-Ok.ensures.plan,
-      elim c.in-Err-open_planned.ensures.stopped [
-        | inl A ↦
+      c.in_ok-plan.ensures.plan,
+      elim c.in-Err.ensures.stopped [
+        | inl (inl A) ↦
             let few : A.place ≤ length planned.parts = (let b = slice_get_within planned.parts A.place (A.met).part (A.met).there in omega arith) in
             let S = sources_closed seen files old planned.parts A.place heads A.read few mid new c.close_files.result c.close_files.ensures in
             inl (record {
@@ -82,7 +82,7 @@ returns-in-Err-open_planned-clause-unopened g c =
               before = have_heads seen files old planned.parts A.place heads A.read few;
               met = record { part = (A.met).part; there = (A.met).there; name = (A.met).name; reads = (A.met).reads; refused = source_refused_later (A.met).part.line (A.met).name old mid new fault S (A.met).refused; asked = λ n. c.close_files.ensures.openings ∙ (A.met).asked n };
             })
-        | inr (inl A) ↦
+        | inl (inr A) ↦
             let S = sources_closed seen files old planned.parts (length planned.parts) heads A.read (omega arith) mid new c.close_files.result c.close_files.ensures in
             inr (inl (record {
               heads = heads;
@@ -95,9 +95,9 @@ returns-in-Err-open_planned-clause-unopened g c =
               still = still_then old mid new A.still S;
               asked = c.close_files.ensures.openings ∙ A.asked;
             }))
-        | inr (inr A) ↦
+        | inr A ↦
             let refused = (A.met).refused in
-            let own : HaveOwnFiles R.0 R.1 plan.parts = subst (HaveOwnFiles R.0 R.1) (sym (A.fitted).parts) (own_files R.0 R.1 R.2 c.args.script.now planned R.3 c.in-Ok.ensures.plan) in
+            let own : HaveOwnFiles R.0 R.1 plan.parts = subst (HaveOwnFiles R.0 R.1) (sym (A.fitted).parts) (own_files R.0 R.1 R.2 c.args.script.now planned R.3 c.in_ok-plan.ensures.plan) in
             inr (inr (record {
               plan = plan;
               files = left_files seen plan.parts heads files;

@@ -26,7 +26,7 @@ loop-place-preserved g c =
       | in-Some+in_ok-snk w ↦ rw (w.media-is, w.files-is) (record {
         still = still_then old mid _ i.still w.in_ok-snk.ensures.still;
         asked = asked_more (λ (part : PartLine). written_by part.form) old mid _ parts count c.index-parts-place.result w.in-Some.name.now (w.in_ok-snk.ensures.still).goes_on there w.in-Some.ensures.some i.asked (w.in_ok-snk.ensures.asked (λ n. cc));
-        have = rw w.put.ensures (sink_more seen old parts planned count c.args.files.now c.loop-place.files i.have c.index-parts-place.result there w.in-Some.name.now _ _ _ w.in-Some.ensures.some
+        have = rw w.put_file.ensures (sink_more seen old parts planned count c.args.files.now c.loop-place.files i.have c.index-parts-place.result there w.in-Some.name.now _ _ _ w.in-Some.ensures.some
             (sink_sooner old mid i.still w.in-Some.name.now _ w.in_ok-snk.ensures.opened) refl refl within);
       })
       | in_default w ↦ rw (w.media-is, w.files-is) (record {

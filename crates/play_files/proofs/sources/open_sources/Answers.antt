@@ -13,7 +13,7 @@ use Rattle.play_files.proofs.sources.open_sources.Goals.{in-None, in-Some+in_ok-
 pub loop-part-preserved : goal.loop-part-preserved
 loop-part-preserved g c =
     let i = c.loop-part.invariant in
-    let seen = file_seen g.M.Src.Source g.M.Snk.Sink in
+    let seen = file_seen g.M.Src.Source g.K.Sink in
     let old = g.M.Media.outside c.args.media.now in
     let parts = c.args.parts.now in
     let count = c.loop-part.part-index in

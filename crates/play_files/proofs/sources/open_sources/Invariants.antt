@@ -13,5 +13,5 @@ invariant-loop-part g l = record {
   files_few : vec_len l.files ≤ l.part-index;
   still : IsStill (g.M.Media.outside l.fn.media) (g.M.Media.outside l.media);
   asked : HasAskedFor (g.M.Media.outside l.fn.media) (g.M.Media.outside l.media) (read_names (take l.part-index l.parts));
-  read : AreRead (file_seen g.M.Src.Source g.M.Snk.Sink) (g.M.Media.outside l.fn.media) l.parts l.part-index l.heads.items l.files.items;
+  read : AreRead (file_seen g.M.Src.Source g.K.Sink) (g.M.Media.outside l.fn.media) l.parts l.part-index l.heads.items l.files.items;
 }

@@ -1,4 +1,5 @@
-use Rattle.play_stream_laws.proofs.Plain.{parts, plain_same}
+use Rattle.audio_parts.proofs.Plain.{plain_same}
+use Rattle.play_stream_laws.proofs.Plain.{parts}
 use Rattle.play_stream_laws.proofs.Padding.{plain_padded}
 use Rattle.play_stream_laws.proofs.parts.law_of_plain_parts.Goals as goal
 

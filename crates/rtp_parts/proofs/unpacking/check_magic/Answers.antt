@@ -1,4 +1,5 @@
 use Rattle.std.proofs.Common.{◌≡◌, ℕ, List, refl, Err, bytes_eq, take, drop, length, sym, ap, ◌∙◌, arith}
+use Rattle.std.proofs.lemmas.Result.{err_from_is_err_and}
 use Rattle.omx_types.specs.declared.fault.WavFault.TheVariants.{TooLarge}
 use Rattle.rtp_parts.specs.declared.fault.RtpFault.TheVariants.{Head}
 use Rattle.rtp_parts.specs.Packing.{magic}
@@ -17,19 +18,20 @@ returns-then-size-lt-MAGIC-clause-other g c = λ bytes is.
 
 pub returns-then-eq-clause-reached : goal.returns-then-eq-clause-reached
 returns-then-eq-clause-reached g c = λ end is.
-    omega (arith, c.in-Ok-read_exact.ensures.reached end (c.in-Ok.ensures.ends ∙ is), c.in-Ok-read_exact.ensures.offset, c.in-Ok.ensures.reached)
+    omega (arith, c.in_ok-read_exact.ensures.reached end (c.in-Ok.ensures.ends ∙ is), c.in_ok-read_exact.ensures.offset, c.in-Ok.ensures.reached)
 
 pub returns-else-eq-clause-other : goal.returns-else-eq-clause-other
 returns-else-eq-clause-other g c = λ bytes is.
     let size : length bytes ≡ c.size-size.result = sym (c.size-size.ensures.value ∙ c.size-size.ensures.told bytes is) in
     let read : c.read_exact.new.buf ≡ take 8 bytes =
-    c.in-Ok-read_exact.ensures.bytes bytes (c.in-Ok.ensures.told ∙ is) ∙ ap (λ (n : ℕ). take 8 (drop n bytes)) c.in-Ok.ensures.reached in
+    c.in_ok-read_exact.ensures.bytes bytes (c.in-Ok.ensures.told ∙ is) ∙ ap (λ (n : ℕ). take 8 (drop n bytes)) c.in-Ok.ensures.reached in
     other_is bytes (omega (arith, size, c.if-size-gt-MOST_BYTES.false))
     (ap (λ (b : List ℕ). bytes_eq b magic) (sym read) ∙ sym c.eq.ensures ∙ c.if-eq.false)
 
-pub returns-in-Err-read_exact-clause-asks_no_further : goal.returns-in-Err-read_exact-clause-asks_no_further
-returns-in-Err-read_exact-clause-asks_no_further g c =
-    stopped_before _ 8 c.in-Err-read_exact.stop c.of_read.result (omega (arith, c.in-Ok.ensures.reached)) c.of_read.ensures c.in-Err-read_exact.ensures.unfinished
+pub returns-in_err-read_exact-clause-asks_no_further : goal.returns-in_err-read_exact-clause-asks_no_further
+returns-in_err-read_exact-clause-asks_no_further g c =
+    let p = err_from_is_err_and c.from_residual.result c.from_residual.ensures.1 in
+    rw (p.1) (stopped_before _ 8 c.in_err-read_exact.field-0.0 p.0 (omega (arith, c.in-Ok.ensures.reached)) p.2 c.in_err-read_exact.ensures.unfinished)
 
 pub returns-then-size-gt-MOST_BYTES-clause-asks : goal.returns-then-size-gt-MOST_BYTES-clause-asks
 returns-then-size-gt-MOST_BYTES-clause-asks g c = asks_sought _ _ refl
@@ -46,5 +48,5 @@ returns-then-eq-clause-asks g c = asks_first _ _ _ _ _ c.seek_to.ensures.asked c
 pub returns-else-eq-clause-asks : goal.returns-else-eq-clause-asks
 returns-else-eq-clause-asks g c = asks_first _ _ _ _ _ c.seek_to.ensures.asked c.in-Ok.ensures.reached refl c.read_exact.ensures.asks
 
-pub returns-in-Err-read_exact-clause-asks : goal.returns-in-Err-read_exact-clause-asks
-returns-in-Err-read_exact-clause-asks g c = asks_first _ _ _ _ _ c.seek_to.ensures.asked c.in-Ok.ensures.reached refl c.read_exact.ensures.asks
+pub returns-in_err-read_exact-clause-asks : goal.returns-in_err-read_exact-clause-asks
+returns-in_err-read_exact-clause-asks g c = asks_first _ _ _ _ _ c.seek_to.ensures.asked c.in-Ok.ensures.reached refl c.read_exact.ensures.asks

@@ -1,10 +1,14 @@
-use Rattle.std.proofs.Common.{◌≡◌, ◌<◌, length, slice_get, Some, sym, ◌∙◌, ap}
-use Rattle.std.proofs.lemmas.Option.{slice_get-get_or}
 use Rattle.il_component.specs.Entries.{component_of}
 use Rattle.graph_core.specs.Entries.{Entries}
 use Rattle.graph_core.proofs.Replacing.{there, component_sound}
+use Rattle.graph_core.proofs.Found.{bounds_of, found_of}
 use Rattle.graph_core.proofs.Gathered.{gathered}
 use Rattle.graph_core.proofs.core_graph.Core.empty_refusal.Goals as goal
+
+pub index-component-requires : goal.index-component-requires
+index-component-requires g c =
+    let i = c.self.inside in
+    bounds_of g.C.Client.progress (gathered i.components.items i.stock i.book i.registry.given) _ c.self.view_is c.args.place _ i.components.ok.0 c.requires.place
 
 pub empty_refusal-requires : goal.empty_refusal-requires
 empty_refusal-requires g c =
@@ -12,6 +16,5 @@ empty_refusal-requires g c =
     let p = g.C.Client.progress in
     let G : Entries (g.row.C.Denot) = gathered i.components.items i.stock i.book i.registry.given in
     let e = c.index-component.result.now in
-    let b : c.args.place < length i.components.items = rw (← c.self.view_is) at c.requires.place in
-    let at : slice_get i.components.items c.args.place ≡ Some e = slice_get-get_or i.components.items c.args.place e b ∙ ap Some (sym c.index-component.ensures) in
+    let at = found_of p G _ c.self.view_is c.args.place c.requires.place e c.index-component.ensures in
     component_sound p G c.args.place (component_of e) c.self.invariant.0.worlds (there p G c.args.place e at)

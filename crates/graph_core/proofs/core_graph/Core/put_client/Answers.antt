@@ -1,18 +1,23 @@
-use Rattle.std.proofs.Common.{◌≡◌, ◌<◌, true, length, slice_get, Some, is_none, refl, sym, ◌∙◌, ap}
-use Rattle.std.proofs.lemmas.Option.{slice_get-get_or}
+use Rattle.std.proofs.Common.{◌≡◌, true, is_none, refl, ◌∙◌, ap}
 use Rattle.il_component.specs.Entries.{Entry, component_of}
 use Rattle.graph_core.specs.Entries.{Entries}
 use Rattle.graph_core.proofs.Clients.{others_set, client_set, in_now}
 use Rattle.graph_core.proofs.Renumbered.{own_place}
-use Rattle.graph_core.proofs.Replacing.{there, within}
+use Rattle.graph_core.proofs.Replacing.{there}
 use Rattle.graph_core.proofs.Stepping.{graph_with}
 use Rattle.graph_core.proofs.Returning.{back_worlds, back_returns}
 use Rattle.graph_core.proofs.Marking.{marked_set}
 use Rattle.graph_core.proofs.Calming.{calm_same}
+use Rattle.graph_core.proofs.Found.{bounds, found}
 use Rattle.graph_core.proofs.Gathered.{gathered}
 use Rattle.graph_core.proofs.BookKept.{kept_rows}
 use Rattle.graph_core.specs.Booked.{row_for}
 use Rattle.graph_core.proofs.core_graph.Core.put_client.Goals as goal
+
+pub index_mut-component-requires : goal.index_mut-component-requires
+index_mut-component-requires g c =
+    let i = c.self.inside in
+    bounds g.C.Client.progress (gathered i.components.items i.stock i.book i.registry.given) _ c.self.view_is c.args.place _ c.requires.out _ i.components.ok.0
 
 pub put_client-requires : goal.put_client-requires
 put_client-requires g c =
@@ -20,8 +25,7 @@ put_client-requires g c =
     let e = c.index_mut-component.result.now in
     let G : Entries (g.row.C.Denot) = gathered i.components.items i.stock i.book i.registry.given in
     let asked = rw (← c.self.view_is) at c.requires.out in
-    let b : c.args.place < length i.components.items = within g.C.Client.progress G c.args.place _ asked in
-    let at : slice_get i.components.items c.args.place ≡ Some e = slice_get-get_or i.components.items c.args.place e b ∙ ap Some (sym c.index_mut-component.ensures.value) in
+    let at = found g.C.Client.progress G _ c.self.view_is c.args.place _ c.requires.out e c.index_mut-component.ensures.value in
     rw (there g.C.Client.progress G c.args.place e at) at asked
 
 pub invariant_of-self : goal.invariant_of-self
@@ -30,8 +34,7 @@ invariant_of-self g c =
     let e = c.index_mut-component.result.now in
     let G : Entries (g.row.C.Denot) = gathered i.components.items i.stock i.book i.registry.given in
     let asked = rw (← c.self.view_is) at c.requires.out in
-    let b : c.args.place < length i.components.items = within g.C.Client.progress G c.args.place _ asked in
-    let at : slice_get i.components.items c.args.place ≡ Some e = slice_get-get_or i.components.items c.args.place e b ∙ ap Some (sym c.index_mut-component.ensures.value) in
+    let at = found g.C.Client.progress G _ c.self.view_is c.args.place _ c.requires.out e c.index_mut-component.ensures.value in
     let d = c.put_client.new.self in
     let out : is_none e.queues.client ≡ true = rw (there g.C.Client.progress G c.args.place e at) at asked in (
       graph_with g.C.Client.progress i.components.items i.registry i.stock i.stock i.book.units i.book.numbered i.components.cap c.args.place e d c.self.invariant.0 at
@@ -46,9 +49,7 @@ returns-clause-change g c =
     let i = c.self.inside in
     let e = c.index_mut-component.result.now in
     let G : Entries (g.row.C.Denot) = gathered i.components.items i.stock i.book i.registry.given in
-    let asked = rw (← c.self.view_is) at c.requires.out in
-    let b : c.args.place < length i.components.items = within g.C.Client.progress G c.args.place _ asked in
-    let at : slice_get i.components.items c.args.place ≡ Some e = slice_get-get_or i.components.items c.args.place e b ∙ ap Some (sym c.index_mut-component.ensures.value) in
+    let at = found g.C.Client.progress G _ c.self.view_is c.args.place _ c.requires.out e c.index_mut-component.ensures.value in
     rw (← c.self.view_is) (back_returns g.C.Client.progress G c.args.place e c.args.client c.self.invariant.0.worlds at c.put_client.new.self c.put_client.ensures)
 
 pub returns-clause-client : goal.returns-clause-client
@@ -56,9 +57,7 @@ returns-clause-client g c =
     let i = c.self.inside in
     let e = c.index_mut-component.result.now in
     let G : Entries (g.row.C.Denot) = gathered i.components.items i.stock i.book i.registry.given in
-    let asked = rw (← c.self.view_is) at c.requires.out in
-    let b : c.args.place < length i.components.items = within g.C.Client.progress G c.args.place _ asked in
-    let at : slice_get i.components.items c.args.place ≡ Some e = slice_get-get_or i.components.items c.args.place e b ∙ ap Some (sym c.index_mut-component.ensures.value) in
+    let at = found g.C.Client.progress G _ c.self.view_is c.args.place _ c.requires.out e c.index_mut-component.ensures.value in
     let m = ap (λ (x : Entry (g.row.C.Denot)). x.handle) c.put_client.ensures in
     let own = own_place i.components.items i.registry c.args.place e c.self.invariant.0.registered at in
     rw (← c.self.view_is, there g.C.Client.progress G c.args.place e at)
@@ -69,8 +68,6 @@ returns-clause-clients g c =
     let i = c.self.inside in
     let e = c.index_mut-component.result.now in
     let G : Entries (g.row.C.Denot) = gathered i.components.items i.stock i.book i.registry.given in
-    let asked = rw (← c.self.view_is) at c.requires.out in
-    let b : c.args.place < length i.components.items = within g.C.Client.progress G c.args.place _ asked in
-    let at : slice_get i.components.items c.args.place ≡ Some e = slice_get-get_or i.components.items c.args.place e b ∙ ap Some (sym c.index_mut-component.ensures.value) in
+    let at = found g.C.Client.progress G _ c.self.view_is c.args.place _ c.requires.out e c.index_mut-component.ensures.value in
     let m = ap (λ (x : Entry (g.row.C.Denot)). x.handle) c.put_client.ensures in
     rw (← c.self.view_is, there g.C.Client.progress G c.args.place e at) (others_set i.components.items c.args.place e c.put_client.new.self at m)

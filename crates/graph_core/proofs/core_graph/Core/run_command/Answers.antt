@@ -1,5 +1,4 @@
-use Rattle.std.proofs.Common.{◌≡◌, ◌<◌, length, slice_get, Some, None, sym, ◌∙◌, ap, subst, arith}
-use Rattle.std.proofs.lemmas.Option.{slice_get-get_or}
+use Rattle.std.proofs.Common.{◌≡◌, ◌<◌, length, None, sym, ◌∙◌, ap, subst, arith}
 use Rattle.il_machine.specs.World.{Component}
 use Rattle.il_machine.specs.Look.{Look, look}
 use Rattle.il_machine.specs.Commands.{run_front}
@@ -12,10 +11,16 @@ use Rattle.graph_core.specs.Entries.{Entries, look_of}
 use Rattle.graph_core.proofs.Clients.{clients_set}
 use Rattle.graph_core.proofs.Replacing.{there, within, component_sound, returns_changed}
 use Rattle.graph_core.proofs.Marking.{marked_more}
+use Rattle.graph_core.proofs.Found.{bounds, found}
 use Rattle.graph_core.proofs.Gathered.{gathered}
 use Rattle.graph_core.proofs.BookKept.{entered_room, entered_covered, entered_rows, free_there}
 use Rattle.graph_core.proofs.Entering.{run_graph}
 use Rattle.graph_core.proofs.core_graph.Core.run_command.Goals as goal
+
+pub index_mut-component-requires : goal.index_mut-component-requires
+index_mut-component-requires g c =
+    let i = c.self.inside in
+    bounds g.C.Client.progress (gathered i.components.items i.stock i.book i.registry.given) _ c.self.view_is c.args.place _ c.requires.may _ i.components.ok.0
 
 pub run-requires : goal.run-requires
 run-requires g c =
@@ -23,8 +28,7 @@ run-requires g c =
     let e = c.index_mut-component.result.now in
     let G : Entries (g.row.C.Denot) = gathered i.components.items i.stock i.book i.registry.given in
     let asked = rw (← c.self.view_is) at c.requires.may in
-    let b : c.args.place < length i.components.items = within g.C.Client.progress G c.args.place _ asked in
-    let at : slice_get i.components.items c.args.place ≡ Some e = slice_get-get_or i.components.items c.args.place e b ∙ ap Some (sym c.index_mut-component.ensures.value) in
+    let at = found g.C.Client.progress G _ c.self.view_is c.args.place _ c.requires.may e c.index_mut-component.ensures.value in
     let r = rw (there g.C.Client.progress G c.args.place e at) at asked in
     let S : IsSound (component_of e) = component_sound g.C.Client.progress G c.args.place (component_of e) c.self.invariant.0.worlds (there g.C.Client.progress G c.args.place e at) in
     λ l n. (sound_run l (component_of e) S r).room
@@ -44,9 +48,7 @@ enter-requires-clause-room g c =
     let i = c.self.inside in
     let e = c.index_mut-component.result.now in
     let G : Entries (g.row.C.Denot) = gathered i.components.items i.stock i.book i.registry.given in
-    let asked = rw (← c.self.view_is) at c.requires.may in
-    let b : c.args.place < length i.components.items = within g.C.Client.progress G c.args.place _ asked in
-    let at : slice_get i.components.items c.args.place ≡ Some e = slice_get-get_or i.components.items c.args.place e b ∙ ap Some (sym c.index_mut-component.ensures.value) in
+    let at = found g.C.Client.progress G _ c.self.view_is c.args.place _ c.requires.may e c.index_mut-component.ensures.value in
     let q : component_of c.run.new.self ≡ run_front (look_of G) (component_of e).commands (component_of e) = c.run.ensures.component (look_of G) (record { units = sym (c.free-free.ensures.count ∙ free_there i.book i.components.items c.self.invariant.2); numbered = sym c.numbered.ensures }) in
     entered_room g.C.Client.progress G i.book c.self.invariant.0.worlds c.self.invariant.2 c.args.place e at c.run.new.self (ap (λ (x : Component). x.handle) q ∙ (change_run (look_of G) (component_of e)).handle) c.self.invariant.0.few
 
@@ -56,8 +58,7 @@ enter-requires-clause-covered g c =
     let e = c.index_mut-component.result.now in
     let G : Entries (g.row.C.Denot) = gathered i.components.items i.stock i.book i.registry.given in
     let asked = rw (← c.self.view_is) at c.requires.may in
-    let b : c.args.place < length i.components.items = within g.C.Client.progress G c.args.place _ asked in
-    let at : slice_get i.components.items c.args.place ≡ Some e = slice_get-get_or i.components.items c.args.place e b ∙ ap Some (sym c.index_mut-component.ensures.value) in
+    let at = found g.C.Client.progress G _ c.self.view_is c.args.place _ c.requires.may e c.index_mut-component.ensures.value in
     let r = rw (there g.C.Client.progress G c.args.place e at) at asked in
     let q : component_of c.run.new.self ≡ run_front (look_of G) (component_of e).commands (component_of e) = c.run.ensures.component (look_of G) (record { units = sym (c.free-free.ensures.count ∙ free_there i.book i.components.items c.self.invariant.2); numbered = sym c.numbered.ensures }) in
     let closed : first_due (look_of G) ≡ None = subst (λ (x : Entries (g.row.C.Denot)). first_due (look_of x) ≡ None) (sym c.self.view_is) c.requires.closed in
@@ -70,8 +71,7 @@ invariant_of-self g c =
     let e = c.index_mut-component.result.now in
     let G : Entries (g.row.C.Denot) = gathered i.components.items i.stock i.book i.registry.given in
     let asked = rw (← c.self.view_is) at c.requires.may in
-    let b : c.args.place < length i.components.items = within g.C.Client.progress G c.args.place _ asked in
-    let at : slice_get i.components.items c.args.place ≡ Some e = slice_get-get_or i.components.items c.args.place e b ∙ ap Some (sym c.index_mut-component.ensures.value) in
+    let at = found g.C.Client.progress G _ c.self.view_is c.args.place _ c.requires.may e c.index_mut-component.ensures.value in
     let r = rw (there g.C.Client.progress G c.args.place e at) at asked in
     let q : component_of c.run.new.self ≡ run_front (look_of G) (component_of e).commands (component_of e) = c.run.ensures.component (look_of G) (record { units = sym (c.free-free.ensures.count ∙ free_there i.book i.components.items c.self.invariant.2); numbered = sym c.numbered.ensures }) in
     let closed : first_due (look_of G) ≡ None = subst (λ (x : Entries (g.row.C.Denot)). first_due (look_of x) ≡ None) (sym c.self.view_is) c.requires.closed in
@@ -86,9 +86,7 @@ returns-clause-change g c =
     let i = c.self.inside in
     let e = c.index_mut-component.result.now in
     let G : Entries (g.row.C.Denot) = gathered i.components.items i.stock i.book i.registry.given in
-    let asked = rw (← c.self.view_is) at c.requires.may in
-    let b : c.args.place < length i.components.items = within g.C.Client.progress G c.args.place _ asked in
-    let at : slice_get i.components.items c.args.place ≡ Some e = slice_get-get_or i.components.items c.args.place e b ∙ ap Some (sym c.index_mut-component.ensures.value) in
+    let at = found g.C.Client.progress G _ c.self.view_is c.args.place _ c.requires.may e c.index_mut-component.ensures.value in
     let q : component_of c.run.new.self ≡ run_front (look_of G) (component_of e).commands (component_of e) = c.run.ensures.component (look_of G) (record { units = sym (c.free-free.ensures.count ∙ free_there i.book i.components.items c.self.invariant.2); numbered = sym c.numbered.ensures }) in
     rw (← c.self.view_is, c.enter.ensures) (returns_changed g.C.Client.progress G c.args.place e c.run.new.self (λ w k. run_front (look w) k.commands k) at c.run.ensures.kept
     (part_as (component_of e) (component_of c.run.new.self) (run_front (look_of G) (component_of e).commands (component_of e)) q (part_run (look_of G) (component_of e).commands (component_of e))) (λ w s. subst (λ (l : Look). component_of c.run.new.self ≡ run_front l (component_of e).commands (component_of e)) (sym s.looks) q))
@@ -98,9 +96,7 @@ returns-clause-clients g c =
     let i = c.self.inside in
     let e = c.index_mut-component.result.now in
     let G : Entries (g.row.C.Denot) = gathered i.components.items i.stock i.book i.registry.given in
-    let asked = rw (← c.self.view_is) at c.requires.may in
-    let b : c.args.place < length i.components.items = within g.C.Client.progress G c.args.place _ asked in
-    let at : slice_get i.components.items c.args.place ≡ Some e = slice_get-get_or i.components.items c.args.place e b ∙ ap Some (sym c.index_mut-component.ensures.value) in
+    let at = found g.C.Client.progress G _ c.self.view_is c.args.place _ c.requires.may e c.index_mut-component.ensures.value in
     let q : component_of c.run.new.self ≡ run_front (look_of G) (component_of e).commands (component_of e) = c.run.ensures.component (look_of G) (record { units = sym (c.free-free.ensures.count ∙ free_there i.book i.components.items c.self.invariant.2); numbered = sym c.numbered.ensures }) in
     rw (← c.self.view_is) (clients_set i.components.items c.args.place e c.run.new.self at
     (ap (λ (x : Component). x.handle) q ∙ (change_run (look_of G) (component_of e)).handle) c.run.ensures.kept.client)

@@ -5,7 +5,14 @@ use Rattle.il_machine.specs.Commands.{lacks_port, lacks_target, lacks_command_ro
 use Rattle.il_component.specs.Entries.{component_of}
 use Rattle.graph_core.specs.Entries.{look_of}
 use Rattle.graph_core.proofs.Replacing.{there}
+use Rattle.graph_core.proofs.Found.{bounds_of}
+use Rattle.graph_core.proofs.Gathered.{gathered}
 use Rattle.graph_core.proofs.core_graph.Core.send_refusal.Goals as goal
+
+pub index-component-requires : goal.index-component-requires
+index-component-requires g c =
+    let i = c.self.inside in
+    bounds_of g.C.Client.progress (gathered i.components.items i.stock i.book i.registry.given) _ c.self.view_is c.args.place _ i.components.ok.0 c.requires
 
 pub returns-then-lacks_command_room : goal.returns-then-lacks_command_room
 returns-then-lacks_command_room g c =

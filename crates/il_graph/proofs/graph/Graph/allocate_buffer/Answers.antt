@@ -13,6 +13,11 @@ use Rattle.il_machine.specs.Acts as acts
 use Rattle.il_graph.proofs.HandedIn.{stays_over, stays_same, made_key, allocated_out}
 use Rattle.il_graph.proofs.Whole.{whole_over, files_over, is_whole_over}
 use Rattle.il_graph.proofs.Makable.{may_allocate}
+use Rattle.il_machine.specs.Run.{Step}
+use Rattle.stock_laws.specs.Bare.{StepsBare}
+use Rattle.graph_core.specs.Entries.{kept}
+use Rattle.il_graph.proofs.graph.Graph.allocate_buffer.Given.{Over}
+use Rattle.il_graph.proofs.graph.Graph.allocate_buffer.Goals.{After-close_out}
 use Rattle.il_graph.proofs.graph.Graph.allocate_buffer.Goals as goal
 
 pub returns-in_default-clause-step : goal.returns-in_default-clause-step
@@ -28,16 +33,21 @@ returns-in-Some-allocate_refusal-clause-step g c =
     rw (← c.self.view_is) (whole_over g.C.Client.progress _ c.self.inside.core (acts.AllocateBuffer c.args.h c.args.port) (acts.Allocated _) tt c.self.invariant.1 (λ w B. tt) (refused_by p (λ (l : Look) (k : Component). allocate_refusal l k (port_of k c.args.port)) G c.args.h c.in-Some.place c.in-Some-allocate_refusal.error
     (λ w v i k (x : Held). AtPort (port_of k c.args.port) (λ q. (x ≡ held_of (client_header w.made q false) (empty_load None)) × ClosesTo (with_header (client_header w.made q false) None w) v)) F c.in-Some-allocate_refusal.ensures))
 
-pub returns-clause-step : goal.returns-clause-step
-returns-clause-step g c =
+-- the core's step
+stepped : (g : Over) (c : After-close_out g) → StepsBare (kept g.C.Client.progress c.self.inside.core) (kept g.C.Client.progress c.close_out.new.self) (λ w v. Step w (acts.AllocateBuffer c.args.h c.args.port) (acts.Allocated (Ok c.make_header-header.result.held)) v)
+stepped g c =
     let p = g.C.Client.progress in
     let G = c.self.inside.core in
     let F : Found p G c.args.h c.in-Some.place = found p G c.args.h c.in-Some.place c.in-Some.ensures.place c.in-Some.ensures.within in
     let step = changed_on p G c.make_header-header.new.self c.close_out.new.self c.args.h c.in-Some.place c.args.port (λ k q w. with_header (client_header w.made q false) None w) F c.make_header-header.ensures.change c.close_out.ensures.closes in
     let said = and_said p G c.close_out.new.self (port_of F.component c.args.port) (λ w q. c.make_header-header.result.held ≡ held_of (client_header w.made q false) (empty_load None)) (λ w v q. ClosesTo (with_header (client_header w.made q false) None w) v)
     (made_header p G c.args.h c.in-Some.place c.args.port c.make_header-header.result None false F c.make_header-header.ensures.memory c.make_header-header.ensures.header) step in
-    rw (← c.self.view_is) (whole_over g.C.Client.progress _ c.close_out.new.self (acts.AllocateBuffer c.args.h c.args.port) (acts.Allocated _) tt c.self.invariant.1 (λ w B. tt) (done_by p (λ (l : Look) (k : Component). allocate_refusal l k (port_of k c.args.port)) G c.close_out.new.self c.args.h c.in-Some.place c.make_header-header.result.held
-    (λ w v i k (x : Held). AtPort (port_of k c.args.port) (λ q. (x ≡ held_of (client_header w.made q false) (empty_load None)) × ClosesTo (with_header (client_header w.made q false) None w) v)) F c.in_default-allocate_refusal.ensures said))
+    done_by p (λ (l : Look) (k : Component). allocate_refusal l k (port_of k c.args.port)) G c.close_out.new.self c.args.h c.in-Some.place c.make_header-header.result.held
+    (λ w v i k (x : Held). AtPort (port_of k c.args.port) (λ q. (x ≡ held_of (client_header w.made q false) (empty_load None)) × ClosesTo (with_header (client_header w.made q false) None w) v)) F c.in_default-allocate_refusal.ensures said
+
+pub returns-clause-step : goal.returns-clause-step
+returns-clause-step g c =
+    rw (← c.self.view_is) (whole_over g.C.Client.progress _ c.close_out.new.self (acts.AllocateBuffer c.args.h c.args.port) (acts.Allocated _) tt c.self.invariant.1 (λ w B. tt) (stepped g (goal.at.returns-clause-step g c).After-close_out))
 
 pub returns-clause-clients : goal.returns-clause-clients
 returns-clause-clients g c = rw (← c.self.view_is) (λ k. c.close_out.ensures.clients k ∙ c.make_header-header.ensures.clients k)
@@ -51,8 +61,7 @@ returns-in-Some-allocate_refusal-clause-held g c = rw (← c.self.view_is) (stay
 pub returns-clause-held : goal.returns-clause-held
 returns-clause-held g c =
     let G = c.self.inside.core in
-    rw (← c.self.view_is) (stays_over g.C.Client.progress G c.close_out.new.self (acts.AllocateBuffer c.args.h c.args.port) (acts.Allocated (Ok c.make_header-header.result.held)) refl (λ w. tt) c.law_of_worlds.ensures.one (let p = g.C.Client.progress in let G = c.self.inside.core in let F : Found p G c.args.h c.in-Some.place = found p G c.args.h c.in-Some.place c.in-Some.ensures.place c.in-Some.ensures.within in let step = changed_on p G c.make_header-header.new.self c.close_out.new.self c.args.h c.in-Some.place c.args.port (λ k q w. with_header (client_header w.made q false) None w) F c.make_header-header.ensures.change c.close_out.ensures.closes in let said = and_said p G c.close_out.new.self (port_of F.component c.args.port) (λ w q. c.make_header-header.result.held ≡ held_of (client_header w.made q false) (empty_load None)) (λ w v q. ClosesTo (with_header (client_header w.made q false) None w) v) (made_header p G c.args.h c.in-Some.place c.args.port c.make_header-header.result None false F c.make_header-header.ensures.memory c.make_header-header.ensures.header) step in done_by p (λ (l : Look) (k : Component). allocate_refusal l k (port_of k c.args.port)) G c.close_out.new.self c.args.h c.in-Some.place c.make_header-header.result.held
-    (λ w v i k (x : Held). AtPort (port_of k c.args.port) (λ q. (x ≡ held_of (client_header w.made q false) (empty_load None)) × ClosesTo (with_header (client_header w.made q false) None w) v)) F c.in_default-allocate_refusal.ensures said))
+    rw (← c.self.view_is) (stays_over g.C.Client.progress G c.close_out.new.self (acts.AllocateBuffer c.args.h c.args.port) (acts.Allocated (Ok c.make_header-header.result.held)) refl (λ w. tt) c.law_of_worlds.ensures.one (stepped g (goal.at.returns-clause-held g c).After-close_out))
 
 pub returns-clause-handed : goal.returns-clause-handed
 returns-clause-handed g c =
@@ -61,32 +70,17 @@ returns-clause-handed g c =
     let F : Found p G c.args.h c.in-Some.place = found p G c.args.h c.in-Some.place c.in-Some.ensures.place c.in-Some.ensures.within in
     let memory = clients_of c.make_header-header.result.store None c.make_header-header.ensures.memory in
     let own = made_key p G c.args.h c.in-Some.place c.args.port c.make_header-header.result F c.make_header-header.ensures.header in
-    rw (← c.self.view_is) (allocated_out p G c.close_out.new.self c.args.h c.args.port c.make_header-header.result own memory c.law_of_worlds.ensures.one (let p = g.C.Client.progress in let G = c.self.inside.core in let F : Found p G c.args.h c.in-Some.place = found p G c.args.h c.in-Some.place c.in-Some.ensures.place c.in-Some.ensures.within in let step = changed_on p G c.make_header-header.new.self c.close_out.new.self c.args.h c.in-Some.place c.args.port (λ k q w. with_header (client_header w.made q false) None w) F c.make_header-header.ensures.change c.close_out.ensures.closes in let said = and_said p G c.close_out.new.self (port_of F.component c.args.port) (λ w q. c.make_header-header.result.held ≡ held_of (client_header w.made q false) (empty_load None)) (λ w v q. ClosesTo (with_header (client_header w.made q false) None w) v) (made_header p G c.args.h c.in-Some.place c.args.port c.make_header-header.result None false F c.make_header-header.ensures.memory c.make_header-header.ensures.header) step in done_by p (λ (l : Look) (k : Component). allocate_refusal l k (port_of k c.args.port)) G c.close_out.new.self c.args.h c.in-Some.place c.make_header-header.result.held
-    (λ w v i k (x : Held). AtPort (port_of k c.args.port) (λ q. (x ≡ held_of (client_header w.made q false) (empty_load None)) × ClosesTo (with_header (client_header w.made q false) None w) v)) F c.in_default-allocate_refusal.ensures said))
+    rw (← c.self.view_is) (allocated_out p G c.close_out.new.self c.args.h c.args.port c.make_header-header.result own memory c.law_of_worlds.ensures.one (stepped g (goal.at.returns-clause-handed g c).After-close_out))
 
 pub invariant_of-self : goal.invariant_of-self
-invariant_of-self g c =
-    let p = g.C.Client.progress in
-    let G = c.self.inside.core in
-    let F : Found p G c.args.h c.in-Some.place = found p G c.args.h c.in-Some.place c.in-Some.ensures.place c.in-Some.ensures.within in
-    let step = changed_on p G c.make_header-header.new.self c.close_out.new.self c.args.h c.in-Some.place c.args.port (λ k q w. with_header (client_header w.made q false) None w) F c.make_header-header.ensures.change c.close_out.ensures.closes in
-    let said = and_said p G c.close_out.new.self (port_of F.component c.args.port) (λ w q. c.make_header-header.result.held ≡ held_of (client_header w.made q false) (empty_load None)) (λ w v q. ClosesTo (with_header (client_header w.made q false) None w) v)
-    (made_header p G c.args.h c.in-Some.place c.args.port c.make_header-header.result None false F c.make_header-header.ensures.memory c.make_header-header.ensures.header) step in (
-      c.self.invariant.0,
-      is_whole_over g.C.Client.progress _ c.close_out.new.self (acts.AllocateBuffer c.args.h c.args.port) (acts.Allocated _) tt c.self.invariant.1 (λ w B. tt) (done_by p (λ (l : Look) (k : Component). allocate_refusal l k (port_of k c.args.port)) G c.close_out.new.self c.args.h c.in-Some.place c.make_header-header.result.held
-          (λ w v i k (x : Held). AtPort (port_of k c.args.port) (λ q. (x ≡ held_of (client_header w.made q false) (empty_load None)) × ClosesTo (with_header (client_header w.made q false) None w) v)) F c.in_default-allocate_refusal.ensures said) c.close_out.ensures.settled,
-    )
+invariant_of-self g c = (
+  c.self.invariant.0,
+  is_whole_over g.C.Client.progress _ c.close_out.new.self (acts.AllocateBuffer c.args.h c.args.port) (acts.Allocated _) tt c.self.invariant.1 (λ w B. tt) (stepped g (goal.at.invariant_of-self g c).After-close_out) c.close_out.ensures.settled,
+)
 
 pub returns-clause-files : goal.returns-clause-files
 returns-clause-files g c =
-    let p = g.C.Client.progress in
-    let G = c.self.inside.core in
-    let F : Found p G c.args.h c.in-Some.place = found p G c.args.h c.in-Some.place c.in-Some.ensures.place c.in-Some.ensures.within in
-    let step = changed_on p G c.make_header-header.new.self c.close_out.new.self c.args.h c.in-Some.place c.args.port (λ k q w. with_header (client_header w.made q false) None w) F c.make_header-header.ensures.change c.close_out.ensures.closes in
-    let said = and_said p G c.close_out.new.self (port_of F.component c.args.port) (λ w q. c.make_header-header.result.held ≡ held_of (client_header w.made q false) (empty_load None)) (λ w v q. ClosesTo (with_header (client_header w.made q false) None w) v)
-    (made_header p G c.args.h c.in-Some.place c.args.port c.make_header-header.result None false F c.make_header-header.ensures.memory c.make_header-header.ensures.header) step in
-    rw (← c.self.view_is) (files_over g.C.Client.progress _ c.close_out.new.self (acts.AllocateBuffer c.args.h c.args.port) (acts.Allocated _) tt c.self.invariant.1 (λ w B. tt) (done_by p (λ (l : Look) (k : Component). allocate_refusal l k (port_of k c.args.port)) G c.close_out.new.self c.args.h c.in-Some.place c.make_header-header.result.held
-    (λ w v i k (x : Held). AtPort (port_of k c.args.port) (λ q. (x ≡ held_of (client_header w.made q false) (empty_load None)) × ClosesTo (with_header (client_header w.made q false) None w) v)) F c.in_default-allocate_refusal.ensures said))
+    rw (← c.self.view_is) (files_over g.C.Client.progress _ c.close_out.new.self (acts.AllocateBuffer c.args.h c.args.port) (acts.Allocated _) tt c.self.invariant.1 (λ w B. tt) (stepped g (goal.at.returns-clause-files g c).After-close_out))
 
 pub make_header-header-requires : goal.make_header-header-requires
 make_header-header-requires g c =

@@ -13,6 +13,9 @@ use Rattle.il_graph.proofs.Tunnelling.{both_end, at_both, other_not_found, refus
 use Rattle.il_machine.specs.Acts as acts
 use Rattle.il_graph.proofs.HandedIn.{keeps_over, keeps_same}
 use Rattle.il_graph.proofs.Whole.{whole_over, files_over, is_whole_over}
+use Rattle.il_machine.specs.Run.{Step}
+use Rattle.il_graph.proofs.graph.Graph.drop_tunnel.Given.{Over}
+use Rattle.il_graph.proofs.graph.Graph.drop_tunnel.Goals.{After-close_out}
 use Rattle.il_graph.proofs.graph.Graph.drop_tunnel.Goals as goal
 
 -- why the output of the first component isn't parted from the input of the second
@@ -49,8 +52,9 @@ returns-in-Some-drop_refusal-clause-step g c =
     let F' : Found p G c.args.input.handle c.in-Some-place_of.taker = found p G c.args.input.handle c.in-Some-place_of.taker c.in-Some-place_of.ensures.place c.in-Some-place_of.ensures.within in
     rw (← c.self.view_is) (whole_over g.C.Client.progress _ c.self.inside.core (acts.DropTunnel c.args.output c.args.input) (acts.Plain _) tt c.self.invariant.1 (λ w B. tt) (refused_at_both p R G c.args.output.handle c.args.input.handle c.in-Some.giver c.in-Some-place_of.taker c.in-Some-drop_refusal.error Y F F' c.in-Some-drop_refusal.ensures))
 
-pub returns-clause-step : goal.returns-clause-step
-returns-clause-step g c =
+-- the core's step
+stepped : (g : Over) (c : After-close_out g) → StepsBare (kept g.C.Client.progress c.self.inside.core) (kept g.C.Client.progress c.close_out.new.self) (λ w v. Step w (acts.DropTunnel c.args.output c.args.input) (acts.Plain (Ok tt)) v)
+stepped g c =
     let p = g.C.Client.progress in
     let G = c.self.inside.core in
     let R = refusal c.args.output.index c.args.input.index in
@@ -62,7 +66,11 @@ returns-clause-step g c =
     F F' c.drop_tunnel.ensures.change in
     let s = both_end (kept p G) (kept p c.drop_tunnel.new.self) (kept p c.close_out.new.self) (port_of F.component c.args.output.index) (port_of F'.component c.args.input.index)
     (λ a b w. both_parted c.in-Some.giver F.component a c.in-Some-place_of.taker F'.component b w) parted c.close_out.ensures.closes in
-    rw (← c.self.view_is) (whole_over g.C.Client.progress _ c.close_out.new.self (acts.DropTunnel c.args.output c.args.input) (acts.Plain _) tt c.self.invariant.1 (λ w B. tt) (accepted_at_both p R G c.close_out.new.self c.args.output.handle c.args.input.handle c.in-Some.giver c.in-Some-place_of.taker tt Y F F' c.in_default-drop_refusal.ensures s))
+    accepted_at_both p R G c.close_out.new.self c.args.output.handle c.args.input.handle c.in-Some.giver c.in-Some-place_of.taker tt Y F F' c.in_default-drop_refusal.ensures s
+
+pub returns-clause-step : goal.returns-clause-step
+returns-clause-step g c =
+    rw (← c.self.view_is) (whole_over g.C.Client.progress _ c.close_out.new.self (acts.DropTunnel c.args.output c.args.input) (acts.Plain _) tt c.self.invariant.1 (λ w B. tt) (stepped g (goal.at.returns-clause-step g c).After-close_out))
 
 pub returns-clause-clients : goal.returns-clause-clients
 returns-clause-clients g c = rw (← c.self.view_is) (λ k. c.close_out.ensures.clients k ∙ c.drop_tunnel.ensures.clients k)
@@ -79,34 +87,12 @@ returns-in-Some-drop_refusal-clause-held g c = rw (← c.self.view_is) (keeps_sa
 pub returns-clause-held : goal.returns-clause-held
 returns-clause-held g c =
     let G = c.self.inside.core in
-    rw (← c.self.view_is) (keeps_over g.C.Client.progress G c.close_out.new.self (acts.DropTunnel c.args.output c.args.input) (acts.Plain (Ok tt)) refl refl (λ w. tt) c.law_of_worlds.ensures.one (let p = g.C.Client.progress in let G = c.self.inside.core in let R = refusal c.args.output.index c.args.input.index in let Y = Parted c.args.output.index c.args.input.index in let F : Found p G c.args.output.handle c.in-Some.giver = found p G c.args.output.handle c.in-Some.giver c.in-Some.ensures.place c.in-Some.ensures.within in let F' : Found p G c.args.input.handle c.in-Some-place_of.taker = found p G c.args.input.handle c.in-Some-place_of.taker c.in-Some-place_of.ensures.place c.in-Some-place_of.ensures.within in let parted = at_both p G c.args.output.handle c.args.input.handle c.in-Some.giver c.in-Some-place_of.taker (λ k d. BothPorts (port_of k c.args.output.index) (port_of d c.args.input.index) (λ a b. StepsBare (kept p G) (kept p c.drop_tunnel.new.self) (λ w v. v ≡ both_parted c.in-Some.giver k a c.in-Some-place_of.taker d b w))) F F' c.drop_tunnel.ensures.change in let s = both_end (kept p G) (kept p c.drop_tunnel.new.self) (kept p c.close_out.new.self) (port_of F.component c.args.output.index) (port_of F'.component c.args.input.index) (λ a b w. both_parted c.in-Some.giver F.component a c.in-Some-place_of.taker F'.component b w) parted c.close_out.ensures.closes in accepted_at_both p R G c.close_out.new.self c.args.output.handle c.args.input.handle c.in-Some.giver c.in-Some-place_of.taker tt Y F F' c.in_default-drop_refusal.ensures s))
+    rw (← c.self.view_is) (keeps_over g.C.Client.progress G c.close_out.new.self (acts.DropTunnel c.args.output c.args.input) (acts.Plain (Ok tt)) refl refl (λ w. tt) c.law_of_worlds.ensures.one (stepped g (goal.at.returns-clause-held g c).After-close_out))
 
 pub invariant_of-self : goal.invariant_of-self
 invariant_of-self g c =
-    let p = g.C.Client.progress in
-    let G = c.self.inside.core in
-    let R = refusal c.args.output.index c.args.input.index in
-    let Y = Parted c.args.output.index c.args.input.index in
-    let F : Found p G c.args.output.handle c.in-Some.giver = found p G c.args.output.handle c.in-Some.giver c.in-Some.ensures.place c.in-Some.ensures.within in
-    let F' : Found p G c.args.input.handle c.in-Some-place_of.taker = found p G c.args.input.handle c.in-Some-place_of.taker c.in-Some-place_of.ensures.place c.in-Some-place_of.ensures.within in
-    let parted = at_both p G c.args.output.handle c.args.input.handle c.in-Some.giver c.in-Some-place_of.taker
-    (λ k d. BothPorts (port_of k c.args.output.index) (port_of d c.args.input.index) (λ a b. StepsBare (kept p G) (kept p c.drop_tunnel.new.self) (λ w v. v ≡ both_parted c.in-Some.giver k a c.in-Some-place_of.taker d b w)))
-    F F' c.drop_tunnel.ensures.change in
-    let s = both_end (kept p G) (kept p c.drop_tunnel.new.self) (kept p c.close_out.new.self) (port_of F.component c.args.output.index) (port_of F'.component c.args.input.index)
-    (λ a b w. both_parted c.in-Some.giver F.component a c.in-Some-place_of.taker F'.component b w) parted c.close_out.ensures.closes in
-    (c.self.invariant.0, is_whole_over g.C.Client.progress _ c.close_out.new.self (acts.DropTunnel c.args.output c.args.input) (acts.Plain _) tt c.self.invariant.1 (λ w B. tt) (accepted_at_both p R G c.close_out.new.self c.args.output.handle c.args.input.handle c.in-Some.giver c.in-Some-place_of.taker tt Y F F' c.in_default-drop_refusal.ensures s) c.close_out.ensures.settled)
+    (c.self.invariant.0, is_whole_over g.C.Client.progress _ c.close_out.new.self (acts.DropTunnel c.args.output c.args.input) (acts.Plain _) tt c.self.invariant.1 (λ w B. tt) (stepped g (goal.at.invariant_of-self g c).After-close_out) c.close_out.ensures.settled)
 
 pub returns-clause-files : goal.returns-clause-files
 returns-clause-files g c =
-    let p = g.C.Client.progress in
-    let G = c.self.inside.core in
-    let R = refusal c.args.output.index c.args.input.index in
-    let Y = Parted c.args.output.index c.args.input.index in
-    let F : Found p G c.args.output.handle c.in-Some.giver = found p G c.args.output.handle c.in-Some.giver c.in-Some.ensures.place c.in-Some.ensures.within in
-    let F' : Found p G c.args.input.handle c.in-Some-place_of.taker = found p G c.args.input.handle c.in-Some-place_of.taker c.in-Some-place_of.ensures.place c.in-Some-place_of.ensures.within in
-    let parted = at_both p G c.args.output.handle c.args.input.handle c.in-Some.giver c.in-Some-place_of.taker
-    (λ k d. BothPorts (port_of k c.args.output.index) (port_of d c.args.input.index) (λ a b. StepsBare (kept p G) (kept p c.drop_tunnel.new.self) (λ w v. v ≡ both_parted c.in-Some.giver k a c.in-Some-place_of.taker d b w)))
-    F F' c.drop_tunnel.ensures.change in
-    let s = both_end (kept p G) (kept p c.drop_tunnel.new.self) (kept p c.close_out.new.self) (port_of F.component c.args.output.index) (port_of F'.component c.args.input.index)
-    (λ a b w. both_parted c.in-Some.giver F.component a c.in-Some-place_of.taker F'.component b w) parted c.close_out.ensures.closes in
-    rw (← c.self.view_is) (files_over g.C.Client.progress _ c.close_out.new.self (acts.DropTunnel c.args.output c.args.input) (acts.Plain _) tt c.self.invariant.1 (λ w B. tt) (accepted_at_both p R G c.close_out.new.self c.args.output.handle c.args.input.handle c.in-Some.giver c.in-Some-place_of.taker tt Y F F' c.in_default-drop_refusal.ensures s))
+    rw (← c.self.view_is) (files_over g.C.Client.progress _ c.close_out.new.self (acts.DropTunnel c.args.output c.args.input) (acts.Plain _) tt c.self.invariant.1 (λ w B. tt) (stepped g (goal.at.returns-clause-files g c).After-close_out))

@@ -1,26 +1,30 @@
-use Rattle.std.proofs.Common.{◌≡◌, ◌<◌, length, map, remove, Option, Some, None, option_map, slice_get, Ok, Err, refl, sym, ◌∙◌, ap, arith}
-use Rattle.std.proofs.lemmas.Option.{slice_get-get_or, slice_get-map}
+use Rattle.std.proofs.Common.{◌≡◌, map, remove, Option, Some, None, option_map, Ok, Err, refl, sym, ◌∙◌, ap, arith}
 use Rattle.omx_types.specs.declared.handle.Handle.{Handle}
 use Rattle.omx_types.specs.declared.error.OmxError.TheVariants as errors
 use Rattle.part_api.specs.declared.attached.Attached.{Attached}
-use Rattle.il_machine.specs.World.{Component, number_of}
+use Rattle.il_machine.specs.World.{Component}
 use Rattle.il_machine.specs.Look.{Look, look}
 use Rattle.il_machine.specs.Due.{ClosesTo}
 use Rattle.il_machine.specs.Answers.{Answers}
 use Rattle.il_machine.specs.Components.{free_refusal, without_component}
 use Rattle.il_machine.specs.Acts as acts
+use Rattle.il_machine.specs.Run.{Step}
+use Rattle.stock_laws.specs.Bare.{StepsBare}
 use Rattle.stock_laws.proofs.Lists.{map_remove}
-use Rattle.graph_core.specs.Entries.{component_at, look_of}
+use Rattle.graph_core.specs.Entries.{component_at, look_of, kept as core_kept}
+use Rattle.audio_parts.specs.declared.any_part.AnyPart.{AnyPart}
 use Rattle.audio_parts.specs.AnyParts.{attached_of}
-use Rattle.audio_parts.specs.Shown.{shown_by}
-use Rattle.il_graph.specs.Shown.{IsPartOf}
+use Rattle.audio_parts.specs.Shown.{ShownPart, shown_by}
+use Rattle.il_graph.specs.Shown.{Shown}
 use Rattle.il_graph.proofs.Calling.{Found, found, at_some, not_found, refused_at}
 use Rattle.il_graph.proofs.Clients.{named_is, others_kept, own, own_client}
 use Rattle.il_graph.proofs.Freeing.{freed_at}
 use Rattle.il_graph.proofs.HandedIn.{keeps_over, keeps_same}
-use Rattle.il_graph.proofs.Holding.{free_of_work, holds_it, holds_part, items_within, part_within}
-use Rattle.il_graph.proofs.Leaving.{left_files, left_is_whole, left_whole, own_file}
+use Rattle.il_graph.proofs.Holding.{IsSeated, free_of_work, seat_there, seat_within, seated}
+use Rattle.il_graph.proofs.Leaving.{HasLeft, has_left}
 use Rattle.il_graph.proofs.Whole.{whole_over}
+use Rattle.il_graph.proofs.graph.Graph.free_handle.Given.{Over}
+use Rattle.il_graph.proofs.graph.Graph.free_handle.Goals.{After-into_file}
 use Rattle.il_graph.proofs.graph.Graph.free_handle.Goals as goal
 
 pub returns-in_default-clause-step : goal.returns-in_default-clause-step
@@ -34,171 +38,6 @@ returns-in-Some-free_refusal-clause-step g c =
     let F : Found p G c.args.h c.in-Some.place = found p G c.args.h c.in-Some.place c.in-Some.ensures.place c.in-Some.ensures.within in
     rw (← c.self.view_is) (whole_over p _ G (acts.FreeHandle c.args.h) (acts.Removed _) tt c.self.invariant.1 (λ w B. tt) (refused_at p (λ (l : Look) (k : Component). free_refusal l.headers k) G c.args.h c.in-Some.place c.in-Some-free_refusal.error (λ w v i k (file : Option Attached). (file ≡ k.file) × ClosesTo (without_component i k w) v) F c.in-Some-free_refusal.ensures))
 
-pub remove-requires : goal.remove-requires
-remove-requires g c =
-    let p = g.C.Client.progress in
-    let G = c.self.inside.core in
-    let items = c.self.inside.parts.items in
-    let f = shown_by g.S.Source.told g.K.Sink.told g.K.Sink.name in
-    let i = c.in-Some.place in
-    let F : Found p G c.args.h i = found p G c.args.h i c.in-Some.ensures.place c.in-Some.ensures.within in
-    let I = c.self.invariant.1 in
-    let may : free_refusal (look_of G).headers F.component ≡ None = sym (at_some (λ k. None ≡ free_refusal (look_of G).headers k) (component_at i G) F.component F.at c.in_default-free_refusal.ensures) in
-    let free : F.component.work ≡ None = free_of_work (look_of G).headers F.component may in
-    let b : i < length items = items_within f items i (part_within p _ I i F.component F.at) in
-    let n = c.self.inside.parts.ok.0 in
-    omega (arith, n, b)
-
-pub unreachable-requires : goal.unreachable-requires
-unreachable-requires g c =
-    let p = g.C.Client.progress in
-    let G = c.self.inside.core in
-    let items = c.self.inside.parts.items in
-    let f = shown_by g.S.Source.told g.K.Sink.told g.K.Sink.name in
-    let i = c.in-Some.place in
-    let F : Found p G c.args.h i = found p G c.args.h i c.in-Some.ensures.place c.in-Some.ensures.within in
-    let I = c.self.invariant.1 in
-    let may : free_refusal (look_of G).headers F.component ≡ None = sym (at_some (λ k. None ≡ free_refusal (look_of G).headers k) (component_at i G) F.component F.at c.in_default-free_refusal.ensures) in
-    let free : F.component.work ≡ None = free_of_work (look_of G).headers F.component may in
-    let b : i < length items = items_within f items i (part_within p _ I i F.component F.at) in
-    let here : slice_get items i ≡ Some c.remove.result = slice_get-get_or items i c.remove.result b ∙ ap Some (sym (c.remove.ensures.value)) in
-    let Q = holds_part p _ I i F.component F.at f items refl free c.remove.result here in
-    let e : None ≡ Some Q.0 = sym c.in_default-remove.is ∙ Q.1 in
-    absurd cc
-
-pub invariant_of-self : goal.invariant_of-self
-invariant_of-self g c =
-    let p = g.C.Client.progress in
-    let G = c.self.inside.core in
-    let items = c.self.inside.parts.items in
-    let f = shown_by g.S.Source.told g.K.Sink.told g.K.Sink.name in
-    let i = c.in-Some.place in
-    let F : Found p G c.args.h i = found p G c.args.h i c.in-Some.ensures.place c.in-Some.ensures.within in
-    let I = c.self.invariant.1 in
-    let may : free_refusal (look_of G).headers F.component ≡ None = sym (at_some (λ k. None ≡ free_refusal (look_of G).headers k) (component_at i G) F.component F.at c.in_default-free_refusal.ensures) in
-    let free : F.component.work ≡ None = free_of_work (look_of G).headers F.component may in
-    let b : i < length items = items_within f items i (part_within p _ I i F.component F.at) in
-    let here : slice_get items i ≡ Some c.remove.result = slice_get-get_or items i c.remove.result b ∙ ap Some (sym (c.remove.ensures.value)) in
-    let part = c.in-Some-remove.part in
-    let there : slice_get items i ≡ Some (Some part) = here ∙ ap Some c.in-Some-remove.is in
-    let T : IsPartOf F.component (f part) = holds_it p _ I i F.component F.at f items refl free part there in
-    let file : option_map attached_of c.into_file.result ≡ F.component.file = ap (option_map attached_of) (rw c.into_part.ensures at c.into_file.ensures) ∙ T.file in
-    let X = freed_at p G c.args.h i F c.free_handle-client.new.self c.close_out.new.self (option_map attached_of c.into_file.result) file c.in_default-free_refusal.ensures c.free_handle-client.ensures.freed c.close_out.ensures.closes in
-    let mine : number_of F.component ≡ c.args.h.generation = ap (λ (k : Handle). k.generation) (own p G G G c.args.h i F (λ k. refl)) in
-    let after : map (option_map f) c.remove.new.self.items ≡ remove (map (option_map f) items) i = ap (map (option_map f)) c.remove.ensures.items ∙ map_remove (option_map f) items i in
-    let held : slice_get (map (option_map f) items) i ≡ Some (Some (f part)) = slice_get-map (option_map f) items i ∙ ap (option_map (option_map f)) there in
-    (let a = c.self.invariant.0 in let n = c.remove.ensures.capacity in omega (arith, a, n), rw after (left_is_whole p _ c.close_out.new.self c.args.h i F.component (option_map attached_of c.into_file.result) I F.place F.at X c.close_out.ensures.settled))
-
-pub returns-clause-step : goal.returns-clause-step
-returns-clause-step g c =
-    let p = g.C.Client.progress in
-    let G = c.self.inside.core in
-    let items = c.self.inside.parts.items in
-    let f = shown_by g.S.Source.told g.K.Sink.told g.K.Sink.name in
-    let i = c.in-Some.place in
-    let F : Found p G c.args.h i = found p G c.args.h i c.in-Some.ensures.place c.in-Some.ensures.within in
-    let I = c.self.invariant.1 in
-    let may : free_refusal (look_of G).headers F.component ≡ None = sym (at_some (λ k. None ≡ free_refusal (look_of G).headers k) (component_at i G) F.component F.at c.in_default-free_refusal.ensures) in
-    let free : F.component.work ≡ None = free_of_work (look_of G).headers F.component may in
-    let b : i < length items = items_within f items i (part_within p _ I i F.component F.at) in
-    let here : slice_get items i ≡ Some c.remove.result = slice_get-get_or items i c.remove.result b ∙ ap Some (sym (c.remove.ensures.value)) in
-    let part = c.in-Some-remove.part in
-    let there : slice_get items i ≡ Some (Some part) = here ∙ ap Some c.in-Some-remove.is in
-    let T : IsPartOf F.component (f part) = holds_it p _ I i F.component F.at f items refl free part there in
-    let file : option_map attached_of c.into_file.result ≡ F.component.file = ap (option_map attached_of) (rw c.into_part.ensures at c.into_file.ensures) ∙ T.file in
-    let X = freed_at p G c.args.h i F c.free_handle-client.new.self c.close_out.new.self (option_map attached_of c.into_file.result) file c.in_default-free_refusal.ensures c.free_handle-client.ensures.freed c.close_out.ensures.closes in
-    let mine : number_of F.component ≡ c.args.h.generation = ap (λ (k : Handle). k.generation) (own p G G G c.args.h i F (λ k. refl)) in
-    let after : map (option_map f) c.remove.new.self.items ≡ remove (map (option_map f) items) i = ap (map (option_map f)) c.remove.ensures.items ∙ map_remove (option_map f) items i in
-    let held : slice_get (map (option_map f) items) i ≡ Some (Some (f part)) = slice_get-map (option_map f) items i ∙ ap (option_map (option_map f)) there in
-    rw (← c.self.view_is, after) (left_whole p _ c.close_out.new.self c.args.h i F.component (option_map attached_of c.into_file.result) I F.place F.at X)
-
-pub returns-clause-file : goal.returns-clause-file
-returns-clause-file g c =
-    let p = g.C.Client.progress in
-    let G = c.self.inside.core in
-    let items = c.self.inside.parts.items in
-    let f = shown_by g.S.Source.told g.K.Sink.told g.K.Sink.name in
-    let i = c.in-Some.place in
-    let F : Found p G c.args.h i = found p G c.args.h i c.in-Some.ensures.place c.in-Some.ensures.within in
-    let I = c.self.invariant.1 in
-    let may : free_refusal (look_of G).headers F.component ≡ None = sym (at_some (λ k. None ≡ free_refusal (look_of G).headers k) (component_at i G) F.component F.at c.in_default-free_refusal.ensures) in
-    let free : F.component.work ≡ None = free_of_work (look_of G).headers F.component may in
-    let b : i < length items = items_within f items i (part_within p _ I i F.component F.at) in
-    let here : slice_get items i ≡ Some c.remove.result = slice_get-get_or items i c.remove.result b ∙ ap Some (sym (c.remove.ensures.value)) in
-    let part = c.in-Some-remove.part in
-    let there : slice_get items i ≡ Some (Some part) = here ∙ ap Some c.in-Some-remove.is in
-    let T : IsPartOf F.component (f part) = holds_it p _ I i F.component F.at f items refl free part there in
-    let file : option_map attached_of c.into_file.result ≡ F.component.file = ap (option_map attached_of) (rw c.into_part.ensures at c.into_file.ensures) ∙ T.file in
-    let X = freed_at p G c.args.h i F c.free_handle-client.new.self c.close_out.new.self (option_map attached_of c.into_file.result) file c.in_default-free_refusal.ensures c.free_handle-client.ensures.freed c.close_out.ensures.closes in
-    let mine : number_of F.component ≡ c.args.h.generation = ap (λ (k : Handle). k.generation) (own p G G G c.args.h i F (λ k. refl)) in
-    let after : map (option_map f) c.remove.new.self.items ≡ remove (map (option_map f) items) i = ap (map (option_map f)) c.remove.ensures.items ∙ map_remove (option_map f) items i in
-    let held : slice_get (map (option_map f) items) i ≡ Some (Some (f part)) = slice_get-map (option_map f) items i ∙ ap (option_map (option_map f)) there in
-    rw (← c.self.view_is) ((rw c.into_part.ensures at c.into_file.ensures) ∙ sym (own_file p _ c.close_out.new.self c.args.h i F.component (option_map attached_of c.into_file.result) I F.place F.at X mine (Some (f part)) held))
-
-pub returns-clause-files : goal.returns-clause-files
-returns-clause-files g c =
-    let p = g.C.Client.progress in
-    let G = c.self.inside.core in
-    let items = c.self.inside.parts.items in
-    let f = shown_by g.S.Source.told g.K.Sink.told g.K.Sink.name in
-    let i = c.in-Some.place in
-    let F : Found p G c.args.h i = found p G c.args.h i c.in-Some.ensures.place c.in-Some.ensures.within in
-    let I = c.self.invariant.1 in
-    let may : free_refusal (look_of G).headers F.component ≡ None = sym (at_some (λ k. None ≡ free_refusal (look_of G).headers k) (component_at i G) F.component F.at c.in_default-free_refusal.ensures) in
-    let free : F.component.work ≡ None = free_of_work (look_of G).headers F.component may in
-    let b : i < length items = items_within f items i (part_within p _ I i F.component F.at) in
-    let here : slice_get items i ≡ Some c.remove.result = slice_get-get_or items i c.remove.result b ∙ ap Some (sym (c.remove.ensures.value)) in
-    let part = c.in-Some-remove.part in
-    let there : slice_get items i ≡ Some (Some part) = here ∙ ap Some c.in-Some-remove.is in
-    let T : IsPartOf F.component (f part) = holds_it p _ I i F.component F.at f items refl free part there in
-    let file : option_map attached_of c.into_file.result ≡ F.component.file = ap (option_map attached_of) (rw c.into_part.ensures at c.into_file.ensures) ∙ T.file in
-    let X = freed_at p G c.args.h i F c.free_handle-client.new.self c.close_out.new.self (option_map attached_of c.into_file.result) file c.in_default-free_refusal.ensures c.free_handle-client.ensures.freed c.close_out.ensures.closes in
-    let mine : number_of F.component ≡ c.args.h.generation = ap (λ (k : Handle). k.generation) (own p G G G c.args.h i F (λ k. refl)) in
-    let after : map (option_map f) c.remove.new.self.items ≡ remove (map (option_map f) items) i = ap (map (option_map f)) c.remove.ensures.items ∙ map_remove (option_map f) items i in
-    let held : slice_get (map (option_map f) items) i ≡ Some (Some (f part)) = slice_get-map (option_map f) items i ∙ ap (option_map (option_map f)) there in
-    rw (← c.self.view_is, after) (left_files p _ c.close_out.new.self c.args.h i F.component (option_map attached_of c.into_file.result) I F.place F.at X mine)
-
-pub returns-clause-held : goal.returns-clause-held
-returns-clause-held g c =
-    let p = g.C.Client.progress in
-    let G = c.self.inside.core in
-    let items = c.self.inside.parts.items in
-    let f = shown_by g.S.Source.told g.K.Sink.told g.K.Sink.name in
-    let i = c.in-Some.place in
-    let F : Found p G c.args.h i = found p G c.args.h i c.in-Some.ensures.place c.in-Some.ensures.within in
-    let I = c.self.invariant.1 in
-    let may : free_refusal (look_of G).headers F.component ≡ None = sym (at_some (λ k. None ≡ free_refusal (look_of G).headers k) (component_at i G) F.component F.at c.in_default-free_refusal.ensures) in
-    let free : F.component.work ≡ None = free_of_work (look_of G).headers F.component may in
-    let b : i < length items = items_within f items i (part_within p _ I i F.component F.at) in
-    let here : slice_get items i ≡ Some c.remove.result = slice_get-get_or items i c.remove.result b ∙ ap Some (sym (c.remove.ensures.value)) in
-    let part = c.in-Some-remove.part in
-    let there : slice_get items i ≡ Some (Some part) = here ∙ ap Some c.in-Some-remove.is in
-    let T : IsPartOf F.component (f part) = holds_it p _ I i F.component F.at f items refl free part there in
-    let file : option_map attached_of c.into_file.result ≡ F.component.file = ap (option_map attached_of) (rw c.into_part.ensures at c.into_file.ensures) ∙ T.file in
-    let X = freed_at p G c.args.h i F c.free_handle-client.new.self c.close_out.new.self (option_map attached_of c.into_file.result) file c.in_default-free_refusal.ensures c.free_handle-client.ensures.freed c.close_out.ensures.closes in
-    let mine : number_of F.component ≡ c.args.h.generation = ap (λ (k : Handle). k.generation) (own p G G G c.args.h i F (λ k. refl)) in
-    let after : map (option_map f) c.remove.new.self.items ≡ remove (map (option_map f) items) i = ap (map (option_map f)) c.remove.ensures.items ∙ map_remove (option_map f) items i in
-    let held : slice_get (map (option_map f) items) i ≡ Some (Some (f part)) = slice_get-map (option_map f) items i ∙ ap (option_map (option_map f)) there in
-    rw (← c.self.view_is) (keeps_over p G c.close_out.new.self (acts.FreeHandle c.args.h) (acts.Removed (Ok (option_map attached_of c.into_file.result))) refl refl (λ w. tt) c.law_of_worlds.ensures.one X)
-
-pub returns-clause-clients : goal.returns-clause-clients
-returns-clause-clients g c =
-    let p = g.C.Client.progress in
-    let G = c.self.inside.core in
-    let i = c.in-Some.place in
-    let F : Found p G c.args.h i = found p G c.args.h i c.in-Some.ensures.place c.in-Some.ensures.within in
-    let I = c.self.invariant.1 in
-    rw (← c.self.view_is) (others_kept p G c.free_handle-client.new.self c.close_out.new.self c.args.h i F c.close_out.ensures.clients c.free_handle-client.ensures.clients)
-
-pub returns-clause-gone : goal.returns-clause-gone
-returns-clause-gone g c =
-    let p = g.C.Client.progress in
-    let G = c.self.inside.core in
-    let i = c.in-Some.place in
-    let F : Found p G c.args.h i = found p G c.args.h i c.in-Some.ensures.place c.in-Some.ensures.within in
-    let I = c.self.invariant.1 in
-    named_is p G c.free_handle-client.new.self c.close_out.new.self c.args.h i F c.close_out.ensures.clients None c.free_handle-client.ensures.gone
-
 pub returns-in_default-clause-held : goal.returns-in_default-clause-held
 returns-in_default-clause-held g c =
     rw (← c.self.view_is) (keeps_same g.C.Client.progress c.self.inside.core)
@@ -207,10 +46,72 @@ pub returns-in-Some-free_refusal-clause-held : goal.returns-in-Some-free_refusal
 returns-in-Some-free_refusal-clause-held g c =
     rw (← c.self.view_is) (keeps_same g.C.Client.progress c.self.inside.core)
 
-pub returns-clause-client : goal.returns-clause-client
-returns-clause-client g c =
+pub remove-requires : goal.remove-requires
+remove-requires g c =
+    let G = c.self.inside.core in
+    let F : Found g.C.Client.progress G c.args.h c.in-Some.place = found g.C.Client.progress G c.args.h c.in-Some.place c.in-Some.ensures.place c.in-Some.ensures.within in
+    seat_within g.C.Client.progress (shown_by g.S.Source.told g.K.Sink.told g.K.Sink.name) c.self.inside.parts.items G c.args.h c.in-Some.place F c.self.invariant.1 _ c.self.inside.parts.ok.0
+
+pub unreachable-requires : goal.unreachable-requires
+unreachable-requires g c =
+    let G = c.self.inside.core in
+    let F : Found g.C.Client.progress G c.args.h c.in-Some.place = found g.C.Client.progress G c.args.h c.in-Some.place c.in-Some.ensures.place c.in-Some.ensures.within in
+    let free = free_of_work (look_of G).headers F.component (sym (at_some (λ k. None ≡ free_refusal (look_of G).headers k) (component_at c.in-Some.place G) F.component F.at c.in_default-free_refusal.ensures)) in
+    seat_there g.C.Client.progress (shown_by g.S.Source.told g.K.Sink.told g.K.Sink.name) c.self.inside.parts.items G c.args.h c.in-Some.place F c.self.invariant.1 free c.remove.result c.remove.ensures.value c.in_default-remove.is
+
+-- ---- what the call leaves
+
+module _ (g : Over) (c : After-into_file g) where
+  abbrev shows : AnyPart g.row.S.Denot g.row.K.Denot g.S.Source g.K.Sink → ShownPart g.row.S.Denot g.row.K.Denot
+  shows = shown_by g.S.Source.told g.K.Sink.told g.K.Sink.name
+
+  abbrev before : Shown g.row.S.Denot g.row.K.Denot g.row.C.Denot
+  before = record { core = c.self.inside.core; parts = map (option_map shows) c.self.inside.parts.items }
+
+  abbrev file : Option Attached
+  file = option_map attached_of c.into_file.result
+
+  F : Found g.C.Client.progress before.core c.args.h c.in-Some.place
+  F = found g.C.Client.progress before.core c.args.h c.in-Some.place c.in-Some.ensures.place c.in-Some.ensures.within
+
+  T : IsSeated F.component shows c.self.inside.parts.items c.in-Some.place c.in-Some-remove.part
+  T =
+      let headers = (look_of before.core).headers in
+      let free = free_of_work headers F.component (sym (at_some (λ k. None ≡ free_refusal headers k) (component_at c.in-Some.place before.core) F.component F.at c.in_default-free_refusal.ensures)) in
+      seated g.C.Client.progress shows c.self.inside.parts.items before.core c.args.h c.in-Some.place F c.self.invariant.1 free c.remove.result c.remove.ensures.value c.in-Some-remove.part c.in-Some-remove.is
+
+  -- the core's step
+  X : StepsBare (core_kept g.C.Client.progress before.core) (core_kept g.C.Client.progress c.close_out.new.self) (λ w v. Step w (acts.FreeHandle c.args.h) (acts.Removed (Ok file)) v)
+  X = freed_at g.C.Client.progress before.core c.args.h c.in-Some.place F c.free_handle-client.new.self c.close_out.new.self file (ap (option_map attached_of) (rw c.into_part.ensures at c.into_file.ensures) ∙ T.tied.file)
+      c.in_default-free_refusal.ensures c.free_handle-client.ensures.freed c.close_out.ensures.closes
+
+  D : HasLeft g.C.Client.progress before c.close_out.new.self c.args.h c.in-Some.place file (Some (shows c.in-Some-remove.part))
+  D = has_left g.C.Client.progress before c.close_out.new.self c.args.h c.in-Some.place F.component file c.self.invariant.1 F.place F.at X (ap (λ (k : Handle). k.generation) (own g.C.Client.progress before.core before.core before.core c.args.h c.in-Some.place F (λ k. refl)))
+      (Some (shows c.in-Some-remove.part)) T.held
+
+  after : map (option_map shows) c.remove.new.self.items ≡ remove before.parts c.in-Some.place
+  after = ap (map (option_map shows)) c.remove.ensures.items ∙ map_remove (option_map shows) c.self.inside.parts.items c.in-Some.place
+
+pub invariant_of-self : goal.invariant_of-self
+invariant_of-self g c =
+    let d = (goal.at.invariant_of-self g c).After-into_file in
+    (let a = c.self.invariant.0 in let n = c.remove.ensures.capacity in omega (arith, a, n), rw (after g d) ((D g d).whole c.close_out.ensures.settled))
+
+pub returns : goal.returns
+returns g c =
     let p = g.C.Client.progress in
+    let d = (goal.at.returns g c).After-into_file in
     let G = c.self.inside.core in
     let i = c.in-Some.place in
-    let F : Found p G c.args.h i = found p G c.args.h i c.in-Some.ensures.place c.in-Some.ensures.within in
-    rw (← c.self.view_is) (own_client p G c.args.h i F c.in-Some.ensures.place c.free_handle-client.result c.free_handle-client.ensures.client)
+    let m = c.free_handle-client.new.self in
+    let k = c.close_out.new.self in
+    record {
+      step = rw (← c.self.view_is, after g d) (D g d).step;
+      held = rw (← c.self.view_is) (keeps_over p G k (acts.FreeHandle c.args.h) (acts.Removed (Ok (file g d))) refl refl (λ w. tt) c.law_of_worlds.ensures.one (X g d));
+      client = rw (← c.self.view_is) (own_client p G c.args.h i (F g d) c.in-Some.ensures.place c.free_handle-client.result c.free_handle-client.ensures.client);
+      file = rw (← c.self.view_is) ((rw c.into_part.ensures at c.into_file.ensures) ∙ sym (D g d).own);
+      gone = named_is p G m k c.args.h i (F g d) c.close_out.ensures.clients None c.free_handle-client.ensures.gone;
+      clients = rw (← c.self.view_is) (others_kept p G m k c.args.h i (F g d) c.close_out.ensures.clients c.free_handle-client.ensures.clients);
+      files = rw (← c.self.view_is, after g d) (D g d).others;
+      unchanged = tt;
+    }

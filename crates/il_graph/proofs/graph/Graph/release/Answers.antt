@@ -12,6 +12,11 @@ use Rattle.il_machine.specs.Acts as acts
 use Rattle.il_machine.specs.declared.answer.Acted.TheVariants as acted
 use Rattle.il_graph.proofs.HandedIn.{keeps_over, keeps_same}
 use Rattle.il_graph.proofs.Whole.{whole_over, files_over, is_whole_over}
+use Rattle.il_machine.specs.Run.{Step}
+use Rattle.stock_laws.specs.Bare.{StepsBare}
+use Rattle.graph_core.specs.Entries.{kept}
+use Rattle.il_graph.proofs.graph.Graph.release.Given.{Over}
+use Rattle.il_graph.proofs.graph.Graph.release.Goals.{After-close_out}
 use Rattle.il_graph.proofs.graph.Graph.release.Goals as goal
 
 pub returns-in_default-clause-step : goal.returns-in_default-clause-step
@@ -51,13 +56,18 @@ release-requires g c =
     let H : HasPort p G c.args.h c.args.port c.in-Some.place F = with_port p G c.args.h c.args.port c.in-Some.place F (rw c.if-not-has_port.false at c.has_port.ensures) in
     may_act p G c.args.h c.args.port c.in-Some.place F H (λ l k q. release_idle l k q) (λ i k q w. front_unmade (in_port (seen w.headers) q) w) c.in_default-release_idle.ensures
 
-pub returns-clause-step : goal.returns-clause-step
-returns-clause-step g c =
+-- the core's step
+stepped : (g : Over) (c : After-close_out g) → StepsBare (kept g.C.Client.progress c.self.inside.core) (kept g.C.Client.progress c.close_out.new.self) (λ w v. Step w (acts.Release c.args.h c.args.port) (acts.Acted (Ok acted.Did)) v)
+stepped g c =
     let p = g.C.Client.progress in
     let G = c.self.inside.core in
     let F : Found p G c.args.h c.in-Some.place = found p G c.args.h c.in-Some.place c.in-Some.ensures.place c.in-Some.ensures.within in
     let H : HasPort p G c.args.h c.args.port c.in-Some.place F = with_port p G c.args.h c.args.port c.in-Some.place F (rw c.if-not-has_port.false at c.has_port.ensures) in
-    rw (← c.self.view_is) (whole_over g.C.Client.progress _ c.close_out.new.self (acts.Release c.args.h c.args.port) (acts.Acted _) tt c.self.invariant.1 (λ w B. tt) (did_on p G c.args.h c.args.port c.in-Some.place F H (λ l k q. release_idle l k q) (λ i k q w. front_unmade (in_port (seen w.headers) q) w) c.release.new.self c.close_out.new.self c.in_default-release_idle.ensures c.release.ensures.change c.close_out.ensures.closes))
+    did_on p G c.args.h c.args.port c.in-Some.place F H (λ l k q. release_idle l k q) (λ i k q w. front_unmade (in_port (seen w.headers) q) w) c.release.new.self c.close_out.new.self c.in_default-release_idle.ensures c.release.ensures.change c.close_out.ensures.closes
+
+pub returns-clause-step : goal.returns-clause-step
+returns-clause-step g c =
+    rw (← c.self.view_is) (whole_over g.C.Client.progress _ c.close_out.new.self (acts.Release c.args.h c.args.port) (acts.Acted _) tt c.self.invariant.1 (λ w B. tt) (stepped g (goal.at.returns-clause-step g c).After-close_out))
 
 pub returns-in_default-clause-held : goal.returns-in_default-clause-held
 returns-in_default-clause-held g c = rw (← c.self.view_is) (keeps_same g.C.Client.progress c.self.inside.core)
@@ -71,23 +81,15 @@ returns-in-Some-release_idle-clause-held g c = rw (← c.self.view_is) (keeps_sa
 pub returns-clause-held : goal.returns-clause-held
 returns-clause-held g c =
     let G = c.self.inside.core in
-    rw (← c.self.view_is) (keeps_over g.C.Client.progress G c.close_out.new.self (acts.Release c.args.h c.args.port) (acts.Acted (Ok acted.Did)) refl refl (λ w. tt) c.law_of_worlds.ensures.one (let p = g.C.Client.progress in let G = c.self.inside.core in let F : Found p G c.args.h c.in-Some.place = found p G c.args.h c.in-Some.place c.in-Some.ensures.place c.in-Some.ensures.within in let H : HasPort p G c.args.h c.args.port c.in-Some.place F = with_port p G c.args.h c.args.port c.in-Some.place F (rw c.if-not-has_port.false at c.has_port.ensures) in did_on p G c.args.h c.args.port c.in-Some.place F H (λ l k q. release_idle l k q) (λ i k q w. front_unmade (in_port (seen w.headers) q) w) c.release.new.self c.close_out.new.self c.in_default-release_idle.ensures c.release.ensures.change c.close_out.ensures.closes))
+    rw (← c.self.view_is) (keeps_over g.C.Client.progress G c.close_out.new.self (acts.Release c.args.h c.args.port) (acts.Acted (Ok acted.Did)) refl refl (λ w. tt) c.law_of_worlds.ensures.one (stepped g (goal.at.returns-clause-held g c).After-close_out))
 
 pub returns-clause-clients : goal.returns-clause-clients
 returns-clause-clients g c = rw (← c.self.view_is) (λ k. c.close_out.ensures.clients k ∙ c.release.ensures.clients k)
 
 pub invariant_of-self : goal.invariant_of-self
 invariant_of-self g c =
-    let p = g.C.Client.progress in
-    let G = c.self.inside.core in
-    let F : Found p G c.args.h c.in-Some.place = found p G c.args.h c.in-Some.place c.in-Some.ensures.place c.in-Some.ensures.within in
-    let H : HasPort p G c.args.h c.args.port c.in-Some.place F = with_port p G c.args.h c.args.port c.in-Some.place F (rw c.if-not-has_port.false at c.has_port.ensures) in
-    (c.self.invariant.0, is_whole_over g.C.Client.progress _ c.close_out.new.self (acts.Release c.args.h c.args.port) (acts.Acted _) tt c.self.invariant.1 (λ w B. tt) (did_on p G c.args.h c.args.port c.in-Some.place F H (λ l k q. release_idle l k q) (λ i k q w. front_unmade (in_port (seen w.headers) q) w) c.release.new.self c.close_out.new.self c.in_default-release_idle.ensures c.release.ensures.change c.close_out.ensures.closes) c.close_out.ensures.settled)
+    (c.self.invariant.0, is_whole_over g.C.Client.progress _ c.close_out.new.self (acts.Release c.args.h c.args.port) (acts.Acted _) tt c.self.invariant.1 (λ w B. tt) (stepped g (goal.at.invariant_of-self g c).After-close_out) c.close_out.ensures.settled)
 
 pub returns-clause-files : goal.returns-clause-files
 returns-clause-files g c =
-    let p = g.C.Client.progress in
-    let G = c.self.inside.core in
-    let F : Found p G c.args.h c.in-Some.place = found p G c.args.h c.in-Some.place c.in-Some.ensures.place c.in-Some.ensures.within in
-    let H : HasPort p G c.args.h c.args.port c.in-Some.place F = with_port p G c.args.h c.args.port c.in-Some.place F (rw c.if-not-has_port.false at c.has_port.ensures) in
-    rw (← c.self.view_is) (files_over g.C.Client.progress _ c.close_out.new.self (acts.Release c.args.h c.args.port) (acts.Acted _) tt c.self.invariant.1 (λ w B. tt) (did_on p G c.args.h c.args.port c.in-Some.place F H (λ l k q. release_idle l k q) (λ i k q w. front_unmade (in_port (seen w.headers) q) w) c.release.new.self c.close_out.new.self c.in_default-release_idle.ensures c.release.ensures.change c.close_out.ensures.closes))
+    rw (← c.self.view_is) (files_over g.C.Client.progress _ c.close_out.new.self (acts.Release c.args.h c.args.port) (acts.Acted _) tt c.self.invariant.1 (λ w B. tt) (stepped g (goal.at.returns-clause-files g c).After-close_out))

@@ -1,20 +1,16 @@
-use Rattle.std.proofs.Common.{◌≡◌, Bool, ℕ, Err, None, Option, Some, refl, sym, ◌∙◌, ap, subst}
-use Rattle.std.specs.Prelude.{IfSome}
-use Rattle.omx_types.specs.declared.fault.PartFault.{PartFault}
-use Rattle.omx_types.specs.declared.handle.Handle.{Handle}
-use Rattle.il_machine.specs.declared.answer.Progress.{Progress}
-use Rattle.audio_parts.specs.AnyParts.{file_of as part_file, has_failed, held_of}
+use Rattle.std.proofs.Common.{Err, None, Some, refl, sym, ◌∙◌, ap}
+use Rattle.audio_parts.specs.AnyParts.{has_failed, held_of}
 use Rattle.audio_parts.specs.ObjectLaws.{object_itself}
 use Rattle.audio_parts.specs.Objects.{ObjectShows, ObjectStays}
-use Rattle.il_graph.specs.Shown.{KeepsFiles, Shown, file_of, look_of}
+use Rattle.il_graph.specs.Shown.{look_of}
 use Rattle.il_graph.proofs.Returning.{are_terms_at, handed_back, terms_at}
 use Rattle.play_graph.specs.Graphs.{kept_of}
-use Rattle.play_run.specs.Playing.{PlayingValue, unfailed}
+use Rattle.play_run.specs.Playing.{PlayingValue}
 use Rattle.play_plan_laws.specs.Assemblies.{play_cast_of}
 use Rattle.play_run.proofs.Answering.{files_same, has_parts}
 use Rattle.play_run.proofs.Commanding.{place_there, turn_there}
 use Rattle.play_run.proofs.Recording.{still_there}
-use Rattle.play_run.proofs.Stepping.{HasLines, may_come, no_work_same, own_number, step_fails, step_turns, still_whole, unclaimed_turns, work_shows, work_stayed, work_stays, worked}
+use Rattle.play_run.proofs.Stepping.{HasLines, failure_shows, files_stay_on, files_stayed_on, may_come, no_work_same, own_number, step_fails, step_turns, still_whole, unclaimed_turns, worked}
 use Rattle.play_run.proofs.playing.Playing.step.Goals as goal
 
 pub place-place-requires : goal.place-place-requires
@@ -64,8 +60,16 @@ pub name_at-name-requires : goal.name_at-name-requires
 name_at-name-requires g c =
     still_there _ c.args.self.now c.self.view_is c.place-place.result (place_there c.args.self.now c.args.component c.place-place.result c.requires.plays c.requires.there c.place-place.ensures)
 
-pub returns-in-None-fault-clause-turned : goal.returns-in-None-fault-clause-turned
-returns-in-None-fault-clause-turned g c =
+pub returns-in-Err-clause-objects : goal.returns-in-Err-clause-objects
+returns-in-Err-clause-objects g c = files_same (ObjectStays g.S.Source.name g.S.Source.size g.S.Source.told g.S.Source.ends g.S.Source.offset g.S.Source.faults g.K.Sink.name g.K.Sink.faults) (object_itself g.S.Source.name g.S.Source.size g.S.Source.told g.S.Source.ends g.S.Source.offset g.S.Source.faults g.K.Sink.name g.K.Sink.faults) _ c.args.self.now c.self.view_is c.claim.new.self c.self.inside.log c.in-Err.ensures.unchanged
+
+pub returns-in-None-clause-objects : goal.returns-in-None-clause-objects
+returns-in-None-clause-objects g c =
+    let t = terms_at c.handle-h.result (look_of c.self.inside.graph) in
+    files_same (ObjectStays g.S.Source.name g.S.Source.size g.S.Source.told g.S.Source.ends g.S.Source.offset g.S.Source.faults g.K.Sink.name g.K.Sink.faults) (object_itself g.S.Source.name g.S.Source.size g.S.Source.told g.S.Source.ends g.S.Source.offset g.S.Source.faults g.K.Sink.name g.K.Sink.faults) _ c.args.self.now c.self.view_is c.claim.new.self c.self.inside.log (no_work_same c.in-Ok.answer t (c.in-None.ensures.none t) c.in-Ok.ensures.unchanged)
+
+pub returns-in-None-fault : goal.returns-in-None-fault
+returns-in-None-fault g c =
     let h = c.handle-h.result in
     let work = c.in-Some.work in
     let is = c.in-Some.ensures.some in
@@ -87,11 +91,20 @@ returns-in-None-fault-clause-turned g c =
       says_second = c.finished.ensures;
       told_second = c.log_act-in-None-fault.ensures;
     } in
-    step_turns _ c.args.self.now c.self.view_is c.claim.new.self c.finish.new.self c.args.component c.place-place.result h c.requires.there c.place-place.ensures c.handle-h.ensures
-    c.law_of_worlds.ensures.closed c.claim.ensures.clients c.finish.ensures.clients
-    (λ r recent p w v W b N s k later q H V e. c.law_of_component_streams.ensures.claimed (play_cast_of c.self.inside.plan) k recent later p q w v c.args.component h r W H V e b N s)
-    c.log_act-in-None-fault.new.log c.frames-frames.result
-    (λ recent p w v W b B k later q H V e. c.law_of_stepped_streams.ensures (play_cast_of c.self.inside.plan) k recent later p q w v c.args.component B.component B.work B.done W H V e b B.there B.out B.its B.does B.faults B.comes) lines done
+    record {
+      plan = ap (λ (x : PlayingValue g.row.S.Denot g.row.K.Denot). x.plan) c.self.view_is;
+      objects =
+          files_stay_on c.self.inside.graph c.claim.new.self c.finish.new.self c.args.self.now.graph (ap (λ (x : PlayingValue g.row.S.Denot g.row.K.Denot). x.graph) c.self.view_is) h c.run-done.result.component (run.component ∙ its) (held_of work.part) (held_of c.run-done.result.part)
+          (rw is at c.in-Ok.ensures.whole) (rw is at c.in-Ok.ensures.file) c.finish.ensures.file (ObjectStays g.S.Source.name g.S.Source.size g.S.Source.told g.S.Source.ends g.S.Source.offset g.S.Source.faults g.K.Sink.name g.K.Sink.faults) (object_itself g.S.Source.name g.S.Source.size g.S.Source.told g.S.Source.ends g.S.Source.offset g.S.Source.faults g.K.Sink.name g.K.Sink.faults) c.claim.ensures.files c.finish.ensures.files run.kept
+          (still_whole work.announces (has_failed work.part) (has_failed c.run-done.result.part) c.run-done.result.fault (rw is at c.in-Ok.ensures.whole) (sym c.fault-fault.ensures ∙ c.in-None-fault.is) run.failed (λ a. ap has_failed (run.unstepped a)));
+      turned =
+          step_turns _ c.args.self.now c.self.view_is c.claim.new.self c.finish.new.self c.args.component c.place-place.result h c.requires.there c.place-place.ensures c.handle-h.ensures
+          c.law_of_worlds.ensures.closed c.claim.ensures.clients c.finish.ensures.clients
+          (λ r recent p w v W b N s k later q H V e. c.law_of_component_streams.ensures.claimed (play_cast_of c.self.inside.plan) k recent later p q w v c.args.component h r W H V e b N s)
+          c.log_act-in-None-fault.new.log c.frames-frames.result
+          (λ recent p w v W b B k later q H V e. c.law_of_stepped_streams.ensures (play_cast_of c.self.inside.plan) k recent later p q w v c.args.component B.component B.work B.done W H V e b B.there B.out B.its B.does B.faults B.comes) lines done;
+      failed = tt;
+    }
 
 pub returns-in-Some-fault-clause-failed : goal.returns-in-Some-fault-clause-failed
 returns-in-Some-fault-clause-failed g c =
@@ -106,48 +119,19 @@ returns-in-Some-fault-clause-failed g c =
     let run = c.run-done.ensures in
     let done = worked (kept_of c.self.inside.graph) (kept_of c.claim.new.self) (kept_of c.finish.new.self) h t _ work c.run-done.result _ _ c.law_of_worlds.ensures.sound steps run.component set_so run.step run.announced (λ a. rw (run.unstepped a) refl) its (Some c.in-Some-fault.fault) c.frames-frames.result (sym c.fault-fault.ensures ∙ c.in-Some-fault.is) (sym c.frames-frames.ensures) c.finish.ensures.step in
     let own = own_number c.args.self.now c.args.component c.place-place.result h c.requires.there c.place-place.ensures c.handle-h.ensures c.requires.plays in
-    let whole = rw is at c.in-Ok.ensures.whole in
-    let file = rw is at c.in-Ok.ensures.file in
-    let same = run.component ∙ its in
-    let back = subst (λ (k : Handle). file_of k.generation c.finish.new.self ≡ part_file c.run-done.result.part) same c.finish.ensures.file in
-    let comes = subst (λ (k : Handle). KeepsFiles k.generation c.claim.new.self c.finish.new.self) same c.finish.ensures.files in
+    let viewed = ap (λ (x : PlayingValue g.row.S.Denot g.row.K.Denot). x.graph) c.self.view_is in
     let before = held_of work.part in
     let after = held_of c.run-done.result.part in
-    let viewed = ap (λ (x : PlayingValue g.row.S.Denot g.row.K.Denot). x.graph) c.self.view_is in
-    let objects = subst (λ (k : Shown g.row.S.Denot g.row.K.Denot Progress). (n : ℕ) → (failed : Bool) × (ObjectStays g.S.Source.name g.S.Source.size g.S.Source.told g.S.Source.ends g.S.Source.offset g.S.Source.faults g.K.Sink.name g.K.Sink.faults) (unfailed (file_of n k)) (record { failed = failed; file = file_of n c.finish.new.self })) viewed
-    (work_stayed (ObjectStays g.S.Source.name g.S.Source.size g.S.Source.told g.S.Source.ends g.S.Source.offset g.S.Source.faults g.K.Sink.name g.K.Sink.faults) (object_itself g.S.Source.name g.S.Source.size g.S.Source.told g.S.Source.ends g.S.Source.offset g.S.Source.faults g.K.Sink.name g.K.Sink.faults) c.self.inside.graph c.claim.new.self c.finish.new.self h.generation before after whole file back c.claim.ensures.files comes run.kept) in
-    let shows = subst (λ (k : Shown g.row.S.Denot g.row.K.Denot Progress). (failed : Bool) × (ObjectShows g.S.Source.size g.S.Source.ends g.S.Source.offset g.S.Source.faults g.K.Sink.faults) c.in-Some-fault.fault (unfailed (file_of c.place-place.result k)) (record { failed = failed; file = file_of c.place-place.result c.finish.new.self })) viewed
-    (work_shows ((ObjectShows g.S.Source.size g.S.Source.ends g.S.Source.offset g.S.Source.faults g.K.Sink.faults) c.in-Some-fault.fault) c.self.inside.graph c.finish.new.self h.generation c.place-place.result before after whole file back own
-    (subst (λ (o : Option PartFault). IfSome o (λ fault. (ObjectShows g.S.Source.size g.S.Source.ends g.S.Source.offset g.S.Source.faults g.K.Sink.faults) fault before after)) (sym c.fault-fault.ensures ∙ c.in-Some-fault.is) run.shows)) in
+    let whole = rw is at c.in-Ok.ensures.whole in
+    let file = rw is at c.in-Ok.ensures.file in
+    let objects =
+    files_stayed_on c.self.inside.graph c.claim.new.self c.finish.new.self c.args.self.now.graph viewed h c.run-done.result.component (run.component ∙ its) before after whole file c.finish.ensures.file
+    (ObjectStays g.S.Source.name g.S.Source.size g.S.Source.told g.S.Source.ends g.S.Source.offset g.S.Source.faults g.K.Sink.name g.K.Sink.faults) (object_itself g.S.Source.name g.S.Source.size g.S.Source.told g.S.Source.ends g.S.Source.offset g.S.Source.faults g.K.Sink.name g.K.Sink.faults) c.claim.ensures.files c.finish.ensures.files run.kept in
+    let shows =
+    failure_shows c.self.inside.graph c.claim.new.self c.finish.new.self c.args.self.now.graph viewed h c.run-done.result.component (run.component ∙ its) before after whole file c.finish.ensures.file
+    (ObjectShows g.S.Source.size g.S.Source.ends g.S.Source.offset g.S.Source.faults g.K.Sink.faults) c.place-place.result own c.run-done.result.fault c.in-Some-fault.fault (sym c.fault-fault.ensures ∙ c.in-Some-fault.is) run.shows in
     step_fails _ c.args.self.now c.self.view_is c.claim.new.self c.finish.new.self c.args.component c.place-place.result h c.requires.there c.place-place.ensures c.handle-h.ensures
     c.law_of_worlds.ensures.closed c.claim.ensures.clients c.finish.ensures.clients
     (λ r recent p w v W b N s k later q H V e. c.law_of_component_streams.ensures.claimed (play_cast_of c.self.inside.plan) k recent later p q w v c.args.component h r W H V e b N s)
     c.log_act.new.log c.frames-frames.result c.in-Some-fault.fault
     (λ recent p w v W b B k H stream Q. c.law_of_written_streams.ensures.failed (play_cast_of c.self.inside.plan) k recent p w v c.args.component B.component B.work B.done c.in-Some-fault.fault stream W H Q b B.there B.out B.its B.does B.faults B.comes) done objects shows
-
-pub returns-in-Err-clause-objects : goal.returns-in-Err-clause-objects
-returns-in-Err-clause-objects g c = files_same (ObjectStays g.S.Source.name g.S.Source.size g.S.Source.told g.S.Source.ends g.S.Source.offset g.S.Source.faults g.K.Sink.name g.K.Sink.faults) (object_itself g.S.Source.name g.S.Source.size g.S.Source.told g.S.Source.ends g.S.Source.offset g.S.Source.faults g.K.Sink.name g.K.Sink.faults) _ c.args.self.now c.self.view_is c.claim.new.self c.self.inside.log c.in-Err.ensures.unchanged
-
-pub returns-in-None-clause-objects : goal.returns-in-None-clause-objects
-returns-in-None-clause-objects g c =
-    let t = terms_at c.handle-h.result (look_of c.self.inside.graph) in
-    files_same (ObjectStays g.S.Source.name g.S.Source.size g.S.Source.told g.S.Source.ends g.S.Source.offset g.S.Source.faults g.K.Sink.name g.K.Sink.faults) (object_itself g.S.Source.name g.S.Source.size g.S.Source.told g.S.Source.ends g.S.Source.offset g.S.Source.faults g.K.Sink.name g.K.Sink.faults) _ c.args.self.now c.self.view_is c.claim.new.self c.self.inside.log (no_work_same c.in-Ok.answer t (c.in-None.ensures.none t) c.in-Ok.ensures.unchanged)
-
-pub returns-in-None-fault-clause-objects : goal.returns-in-None-fault-clause-objects
-returns-in-None-fault-clause-objects g c =
-    let h = c.handle-h.result in
-    let work = c.in-Some.work in
-    let is = c.in-Some.ensures.some in
-    let run = c.run-done.ensures in
-    let its = rw is at c.in-Ok.ensures.component in
-    let whole = rw is at c.in-Ok.ensures.whole in
-    let file = rw is at c.in-Ok.ensures.file in
-    let same = run.component ∙ its in
-    let back = subst (λ (k : Handle). file_of k.generation c.finish.new.self ≡ part_file c.run-done.result.part) same c.finish.ensures.file in
-    let comes = subst (λ (k : Handle). KeepsFiles k.generation c.claim.new.self c.finish.new.self) same c.finish.ensures.files in
-    let before = held_of work.part in
-    let after = held_of c.run-done.result.part in
-    let viewed = ap (λ (x : PlayingValue g.row.S.Denot g.row.K.Denot). x.graph) c.self.view_is in
-    let still = still_whole work.announces (has_failed work.part) (has_failed c.run-done.result.part) c.run-done.result.fault whole (sym c.fault-fault.ensures ∙ c.in-None-fault.is) run.failed (λ a. ap has_failed (run.unstepped a)) in
-    subst (λ (k : Shown g.row.S.Denot g.row.K.Denot Progress). (n : ℕ) → (ObjectStays g.S.Source.name g.S.Source.size g.S.Source.told g.S.Source.ends g.S.Source.offset g.S.Source.faults g.K.Sink.name g.K.Sink.faults) (unfailed (file_of n k)) (unfailed (file_of n c.finish.new.self))) viewed
-    (work_stays (ObjectStays g.S.Source.name g.S.Source.size g.S.Source.told g.S.Source.ends g.S.Source.offset g.S.Source.faults g.K.Sink.name g.K.Sink.faults) (object_itself g.S.Source.name g.S.Source.size g.S.Source.told g.S.Source.ends g.S.Source.offset g.S.Source.faults g.K.Sink.name g.K.Sink.faults) c.self.inside.graph c.claim.new.self c.finish.new.self h.generation before after whole file back c.claim.ensures.files comes run.kept still)

@@ -39,7 +39,7 @@ returns-clause-tried g c = λ tells x w I. (
     let third = tried_so two.plan old.plan two.told.items old.told.items x (change_act E 5) (change_act E 5) two.order b.0 new.order d.0 plan3 told3 refl d.2 in (
       d.0,
       d.1,
-      subst (λ (o : Option LinkEnds). AreTried old.plan old.told.items x (rejoining o) old.order w new.order d.0) (sym (sym c.ends_at.ensures ∙ c.in-Some.is))
+      subst (λ (o : Option LinkEnds). AreTried old.plan old.told.items x (rejoining o) old.order w new.order d.0) (sym (sym c.at.ensures ∙ c.in-Some.is))
           (one.order, a.0, first, (two.order, b.0, second, (new.order, d.0, third, (refl, refl)))),
     ))
 

@@ -1,5 +1,5 @@
--- The steps of a change that a conductor answers by old views can be made.
-use Rattle.std.proofs.Common.{◌≡◌, ◌≢◌, inl, inr, ℕ, ◌+◌, ◌<◌, ◌≤◌, true, false, slice_get, Some, refl, sym, ◌∙◌, ap, subst, arith}
+-- The steps of a change that a conductor answers, by what it knows at the least.
+use Rattle.std.proofs.Common.{◌≡◌, ◌≢◌, ◌⊎◌, inl, inr, ℕ, zero, suc, ◌+◌, ◌<◌, ◌≤◌, true, false, slice_get, Some, refl, sym, ◌∙◌, ap, subst, arith}
 use Rattle.std.proofs.lemmas.Bool.{cases_eq}
 use Rattle.std.specs.Prelude.{slice_set}
 use Rattle.il_machine.specs.World.{World}
@@ -8,25 +8,109 @@ use Rattle.machine_laws.proofs.Every.{at_set, none_passes, set_else, set_there}
 use Rattle.conductor.specs.declared.phase.ChangeStep.{ChangeStep}
 use Rattle.conductor.specs.declared.phase.ChangeStep.TheVariants.{Disable, Retune, Enable}
 use Rattle.conductor.specs.declared.phase.LateLink.{LateLink}
-use Rattle.conductor.specs.declared.phase.Phase.TheVariants as phases
 use Rattle.conductor.specs.Hearing.{ConductorValue}
-use Rattle.conductor.specs.Phases.{Conducts, IsChangeDue, IsStep, is_changed, is_disabled, is_half, one_step_more}
+use Rattle.conductor.specs.Phases.{IsChangeDue, IsStep, has_half, is_changed, is_disabled, is_half, is_ready, may_change, one_step_more}
 use Rattle.play_model.specs.Acts.{Act, CanAct}
-use Rattle.play_model.specs.Changes.{IsInOrder}
-use Rattle.play_model.specs.Play.{Play}
-use Rattle.play_world_laws.specs.Cast.{components_of}
+use Rattle.play_model.specs.Changes.{Change, IsChanged, IsInOrder}
+use Rattle.play_model.specs.Play.{IsUnbroken, Play}
+use Rattle.play_world_laws.specs.Cast.{Cast, components_of}
 use Rattle.play_world_laws.specs.PlayWorlds.{IsPlayWorld, PlayCast}
-use Rattle.play_turn_laws.specs.Conducting.{AreCarriedOut, AreLates, IsCarriedOut, IsChangeOf, IsLateAt, IsLateOf, step_from, step_to}
-use Rattle.play_turn_laws.proofs.Hearing.{of_same, one_link}
+use Rattle.play_turn_laws.specs.Conducting.{AreCarriedOut, AreLates, IsCarriedOut, IsChangeOf, IsLateAt, IsLateOf, IsPlayConducting, IsUnderWay, step_from, step_to}
+use Rattle.play_turn_laws.proofs.Hearing.{both_enabled, of_same, one_link, three_steps}
 use Rattle.play_turn_laws.proofs.Keeping.{one_entry, same_source}
-use Rattle.play_turn_laws.proofs.Changing.{out_to, way_from, way_on}
-use Rattle.play_turn_laws.proofs.Standing.{acts_none, acts_one, acts_two, begun_half, half_begun, half_none, none_answered}
-use Rattle.play_history_laws.specs.Behind.{IsOld}
-use Rattle.play_history_laws.proofs.Standing.{answered, ordered, ready_is, unbroken, where_may}
+use Rattle.play_turn_laws.proofs.Standing.{acts_none, acts_one, acts_three, acts_two, begun_half, half_begun, half_none, none_answered}
 
-module _ (x : PlayCast) (recent : ℕ) (p : Play) (w : World) (W : IsPlayWorld x recent p w) (value : ConductorValue) (V : IsOld x.cast recent p value) where
+-- ---- the steps
+
+-- before a step, and with it answered
+way_from : (step : ChangeStep) (steps acts : ℕ) → IsCarriedOut steps acts → acts ≡ step_from step → IsUnderWay (steps + 1) acts
+way_from Disable zero acts C e = (omega arith, omega arith)
+way_from Retune zero acts C e = absurd (omega arith)
+way_from Enable zero acts C e = absurd (omega arith)
+way_from Disable (suc zero) acts C e = absurd (omega arith)
+way_from Retune (suc zero) acts C e = (omega arith, omega arith)
+way_from Enable (suc zero) acts C e = absurd (omega arith)
+way_from Disable (suc (suc zero)) acts C e = absurd (omega arith)
+way_from Retune (suc (suc zero)) acts C e = absurd (omega arith)
+way_from Enable (suc (suc zero)) acts C e = (omega arith, omega arith)
+way_from Disable (suc (suc (suc zero))) acts C e = absurd (omega arith)
+way_from Retune (suc (suc (suc zero))) acts C e = absurd (omega arith)
+way_from Enable (suc (suc (suc zero))) acts C e = absurd (omega arith)
+way_from step (suc (suc (suc (suc n)))) acts C e = absurd C
+
+-- and until it is carried out
+way_on : (step : ChangeStep) (steps was : ℕ) → IsCarriedOut steps was → was ≡ step_from step → (acts : ℕ) → step_from step ≤ acts → acts ≤ step_to step → IsUnderWay (steps + 1) acts
+way_on Disable zero was C e acts l m = (omega arith, omega arith)
+way_on Disable (suc zero) was C e acts l m = absurd (omega arith)
+way_on Disable (suc (suc zero)) was C e acts l m = absurd (omega arith)
+way_on Disable (suc (suc (suc zero))) was C e acts l m = absurd (omega arith)
+way_on Retune zero was C e acts l m = absurd (omega arith)
+way_on Retune (suc zero) was C e acts l m = (omega arith, omega arith)
+way_on Retune (suc (suc zero)) was C e acts l m = absurd (omega arith)
+way_on Retune (suc (suc (suc zero))) was C e acts l m = absurd (omega arith)
+way_on Enable zero was C e acts l m = absurd (omega arith)
+way_on Enable (suc zero) was C e acts l m = absurd (omega arith)
+way_on Enable (suc (suc zero)) was C e acts l m = (omega arith, omega arith)
+way_on Enable (suc (suc (suc zero))) was C e acts l m = absurd (omega arith)
+way_on step (suc (suc (suc (suc n)))) was C e acts l m = absurd C
+
+-- and once it is
+out_to : (step : ChangeStep) (steps was acts : ℕ) → IsCarriedOut steps was → was ≡ step_from step → acts ≡ step_to step → IsCarriedOut (steps + 1) acts
+out_to Disable zero was acts C e f = f
+out_to Retune zero was acts C e f = absurd (omega arith)
+out_to Enable zero was acts C e f = absurd (omega arith)
+out_to Disable (suc zero) was acts C e f = absurd (omega arith)
+out_to Retune (suc zero) was acts C e f = f
+out_to Enable (suc zero) was acts C e f = absurd (omega arith)
+out_to Disable (suc (suc zero)) was acts C e f = absurd (omega arith)
+out_to Retune (suc (suc zero)) was acts C e f = absurd (omega arith)
+out_to Enable (suc (suc zero)) was acts C e f = f
+out_to Disable (suc (suc (suc zero))) was acts C e f = absurd (omega arith)
+out_to Retune (suc (suc (suc zero))) was acts C e f = absurd (omega arith)
+out_to Enable (suc (suc (suc zero))) was acts C e f = absurd (omega arith)
+out_to step (suc (suc (suc (suc n)))) was acts C e f = absurd C
+
+-- ---- what it knows
+
+-- Each step that it answered is carried out; where it may change links, and where a source is ready, that is so.
+pub record KnowsChanges (cast : Cast) (recent : ℕ) (play : Play) (value : ConductorValue) : Type 0 where
+  pub conducting : IsPlayConducting cast recent play value
+  pub carried : AreCarriedOut cast play value.lates
+  pub running : may_change value ≡ true → (play.phase ≡ 2) × ((c : ℕ) → c < components_of cast → play.stage c ≡ 4)
+  pub ready : (i l : ℕ) (late : LateLink) → slice_get value.lates i ≡ Some late → IsLateAt cast recent play l late → is_ready value.told late ≡ true → (2 ≤ (play.change l).step) × (is_changed late ≡ false)
+
+module _ (x : PlayCast) (recent : ℕ) (p : Play) (w : World) (W : IsPlayWorld x recent p w) (value : ConductorValue) (V : KnowsChanges x.cast recent p value) where
   abbrev L : AreLates x.cast recent p value.lates
   L = (V.conducting).lates
+
+  -- ---- the links
+
+  module _ (i l : ℕ) (late : LateLink) (e : slice_get value.lates i ≡ Some late) (K : IsLateAt x.cast recent p l late) where
+    abbrev k : Change
+    k = p.change l
+
+    answered : IsCarriedOut late.steps k.step
+    answered = V.carried i l late e K.of_link
+
+    ordered : IsInOrder k
+    ordered = ((W.reached).changes l (K.of_link).below).order
+
+    changed_is : is_changed late ≡ true → IsChanged k
+    changed_is h =
+        let b = both_enabled late h in
+        let o = (K.told).output_enabled b.0 in
+        let j = (K.told).input_enabled b.1 in
+        let m = ordered.outputs in
+        let n = ordered.inputs in
+        (acts_three late.steps k.step answered (three_steps late h), omega arith, omega arith)
+
+    half_is : is_half late ≡ false → (k.step ≤ 2) ⊎ IsChanged k
+    half_is f = elim (half_none late f) [ inl z ↦ inl (acts_none late.steps k.step answered z) | inr c ↦ inr (changed_is c) ]
+
+  pub unbroken : has_half value.lates ≡ false → IsUnbroken (x.cast).layout p
+  unbroken h l b t =
+      let r = L.some l b t in
+      half_is r.0 l r.1 r.2 r.3 (none_passes is_half value.lates r.0 r.1 h r.2)
 
   -- ---- a step that is answered
 
@@ -41,13 +125,13 @@ module _ (x : PlayCast) (recent : ℕ) (p : Play) (w : World) (W : IsPlayWorld x
     O = K.of_link
 
     running : (p.phase ≡ 2) × ((c : ℕ) → c < components_of x.cast → p.stage c ≡ 4)
-    running = where_may x recent p w W value V D.now
+    running = V.running D.now
 
     out : IsCarriedOut late.steps (p.change l).step
-    out = answered x recent p w W value V number l late D.there K
+    out = answered number l late D.there K
 
     order : IsInOrder (p.change l)
-    order = ordered x recent p w W value V number l late D.there K
+    order = ordered number l late D.there K
 
     abbrev next : ConductorValue
     next = record value { lates = slice_set value.lates number (one_step_more late) }
@@ -61,12 +145,12 @@ module _ (x : PlayCast) (recent : ℕ) (p : Play) (w : World) (W : IsPlayWorld x
         by_step Retune S = let b = half_begun late S.0 in M.latest m u ∙ sym (K.latest b.0 b.1)
         by_step Enable S = let b = half_begun late S.0 in M.latest m u ∙ sym (K.latest b.0 b.1)
 
-    from : (p.change l).step ≡ step_from step
+    pub from : (p.change l).step ≡ step_from step
     from = by_step step D.due
       where
         by_step : (step : ChangeStep) → IsStep value.told value.lates number late step → (p.change l).step ≡ step_from step
         by_step Disable S =
-            let r = ready_is x recent p w W value V number l late D.there K S.1 in
+            let r = V.ready number l late D.there K S.1 in
             let m = r.0 in
             elim (half_none late (none_passes is_half value.lates number late S.0 D.there)) [
               | inl z ↦ let n = acts_none late.steps (p.change l).step out z in omega arith
@@ -84,7 +168,7 @@ module _ (x : PlayCast) (recent : ℕ) (p : Play) (w : World) (W : IsPlayWorld x
           late = O.late;
           told = omega arith;
           more = omega arith;
-          next = λ two. record { phase = running.0; all = running.1; unbroken = unbroken x recent p w W value V S.0 };
+          next = λ two. record { phase = running.0; all = running.1; unbroken = unbroken S.0 };
           disabled = λ four. absurd (omega arith);
         }
         by_step Retune S e =
@@ -188,9 +272,3 @@ module _ (x : PlayCast) (recent : ℕ) (p : Play) (w : World) (W : IsPlayWorld x
       way = way_on step late.steps (p.change l).step out from;
       carried = carried_next;
     }
-
-  pub old_changes : (then : ConductorValue) (component : ℕ) (step : ChangeStep) → Conducts value (phases.Change component step) then → (l : ℕ) × IsChangeOf x.cast p component step then l
-  old_changes then component step C =
-      let K = C.1 in
-      let l = (L.each K.number K.late (K.due).there).0 in
-      (l, subst (λ (y : ConductorValue). IsChangeOf x.cast p component step y l) (sym K.goes_on) (change_of K.number K.late step K.due component K.its_source))

@@ -1,6 +1,6 @@
 use Rattle.std.proofs.Common.{◌≡◌, Some, None, ◌∙◌}
 use Rattle.std.proofs.lemmas.Option.{get_or_from_slice_get}
-use Rattle.play_files.proofs.sinks.put.Goals as goal
+use Rattle.play_files.proofs.sinks.put_file.Goals as goal
 
 pub unreachable-requires : goal.unreachable-requires
 unreachable-requires g c =
