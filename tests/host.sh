@@ -4,14 +4,7 @@
 # the sink and the log with what the rules say. The earlier log stays where none is made. Then checks the logs of both plays over such a
 # host, which changes no file. Needs a C compiler for the small library that fails.
 # Its last line is 'host: N passed, M failed'.
-. "$(dirname "${BASH_SOURCE[0]}")/program.sh"
-if ! command -v cc >/dev/null; then
-  echo 'host: not run, there is no cc'
-  exit 0
-fi
-room=$(mktemp -d)
-trap 'rm -rf "$room"' EXIT
-cc -O1 -shared -fPIC -o "$room/fail.so" "$top/tests/host/fail.c" -ldl
+. "$(dirname "${BASH_SOURCE[0]}")/failing.sh"
 python3 - "$top" "$program" "$room" <<'PY'
 import os, shutil, subprocess, sys
 

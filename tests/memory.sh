@@ -5,14 +5,7 @@
 # the midst of its samples stops with less than the whole. Workers can take memory fewer times than before, and do without a thread that
 # can't be made: then the play is whole. Then checks the log of the mix so, which is told `out of memory` and changes no file, or gets its
 # yes. Needs a C compiler for the small library that refuses. Its last line is 'memory: N passed, M failed'.
-. "$(dirname "${BASH_SOURCE[0]}")/program.sh"
-if ! command -v cc >/dev/null; then
-  echo 'memory: not run, there is no cc'
-  exit 0
-fi
-room=$(mktemp -d)
-trap 'rm -rf "$room"' EXIT
-cc -O1 -shared -fPIC -o "$room/fail.so" "$top/tests/memory/fail.c" -ldl
+. "$(dirname "${BASH_SOURCE[0]}")/failing.sh"
 python3 - "$top" "$program" "$room" <<'PY'
 import os, shutil, subprocess, sys
 

@@ -4,7 +4,7 @@ use crate::{Name, PortName};
 use omx_types::{Format, PortSel, State, Supplier};
 
 /// An act that names components and ports alone, as a line of a trace or of a log has it.
-#[derive(Clone, Copy, Debug, PartialEq, Eq)]
+#[derive(Clone, Copy)]
 pub enum TextAct {
     Free(Name),
     State(Name),

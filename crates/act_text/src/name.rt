@@ -7,7 +7,7 @@ ghost use Rattle.act_text.specs.Names.{is_name, is_name_byte};
 use std::marker::Model;
 
 /// The name of a component, held in place.
-#[derive(Clone, Copy, Debug, PartialEq, Eq)]
+#[derive(Clone, Copy, PartialEq, Eq)]
 pub struct Name {
     bytes: [u8; 16],
     len: usize,
@@ -62,7 +62,7 @@ impl Name {
 }
 
 /// The name of a component's port.
-#[derive(Clone, Copy, Debug, PartialEq, Eq)]
+#[derive(Clone, Copy, PartialEq, Eq)]
 pub struct PortName {
     pub component: Name,
     pub index: u32,

@@ -5,7 +5,7 @@ use il_machine::PortView;
 use omx_types::{Event, OmxError, State};
 
 /// Why an act changed nothing, with ports by name.
-#[derive(Clone, Copy, Debug, PartialEq, Eq)]
+#[derive(Clone, Copy)]
 pub enum TextWhy {
     NoCommand,
     Pending(State),
@@ -38,7 +38,7 @@ pub enum TextWhy {
 }
 
 /// A reply that names no header.
-#[derive(Clone, Copy, Debug, PartialEq, Eq)]
+#[derive(Clone, Copy)]
 pub enum TextReply {
     /// A call that has no reply of its own was done.
     Done,

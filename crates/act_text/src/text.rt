@@ -17,7 +17,7 @@ use crate::{OutOfMemory, TextAct, TextReply};
 use line_text::{BadWord, LineWords};
 
 /// An act with its reply.
-#[derive(Clone, Copy, Debug, PartialEq, Eq)]
+#[derive(Clone, Copy)]
 pub struct ActText {
     pub act: TextAct,
     pub reply: TextReply,

@@ -10,7 +10,7 @@ use omx_types::Handle;
 use script_lang::PartLine;
 
 /// A component: its place in the script, and its handle.
-#[derive(Clone, Copy, Debug, PartialEq, Eq)]
+#[derive(Clone, Copy)]
 pub struct Player {
     pub place: usize,
     pub handle: Handle,

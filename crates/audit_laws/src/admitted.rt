@@ -3,6 +3,7 @@
 ghost use Rattle.std.specs.Prelude.{◌≡◌, ◌≤◌, ◌++◌, ◌∷◌, [], List, length};
 ghost use Rattle.omx_types.specs.declared.handle.Handle.{Handle};
 ghost use Rattle.il_machine.specs.World.{World};
+ghost use Rattle.play_model.specs.Numbers.{to_loaded};
 ghost use Rattle.play_build_laws.specs.Stages.{IsStage, Joining};
 ghost use Rattle.play_forms.specs.Plans.{PlanValue};
 ghost use Rattle.play_log.specs.Entries.{Entry, steps_of};
@@ -30,7 +31,7 @@ pub fn law_of_admitted_lines()
         → (lines : List LogLine) (entries : List Entry) (after : World) (order : OrderValue)
         → NameAll (scene_of plan.parts world) world lines entries after → AdmitsLines plan lines order
         → (cursor : Cursor) × IsPlanHistory plan files handles world (steps_of entries) cursor after
-        × (IsComplete plan order → 1 ≤ length plan.parts → (cursor.phase ≡ 4) × (length plan.parts ≤ cursor.sent)) }
+        × (IsComplete plan order → 1 ≤ length plan.parts → (cursor.phase ≡ to_loaded) × (length plan.parts ≤ cursor.sent)) }
     ensures admitted { (plan : PlanValue) (files : PlayFiles) (handles : List Handle) (world : World)
         → IsReady plan files → IsStage (assembly_of plan files) (Joining (length plan.joints)) handles world → HaveOwnNames plan.parts
         → (lines : List LogLine) (entries : List Entry) (after : World)

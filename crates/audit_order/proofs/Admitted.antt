@@ -1,23 +1,21 @@
 -- The next of the list is admitted, where it stands in time.
-use Rattle.std.proofs.Common.{◌≡◌, ◌⊎◌, inl, inr, ℕ, zero, suc, ◌+◌, ◌<◌, ◌≤◌, Bool, true, false, not, ◌==◌, ◌&&◌, nat_lt, if◌then◌else◌, List, [], ◌∷◌, ◌++◌, length, drop, set, slice_get, Option, Some, None, refl, sym, ap, subst, ◌∙◌, arith}
-use Rattle.std.specs.Prelude.{count_by}
+use Rattle.std.proofs.Common.{◌≡◌, ◌⊎◌, inl, inr, ℕ, zero, suc, ◌+◌, ◌<◌, ◌≤◌, Bool, true, false, ◌==◌, ◌&&◌, if◌then◌else◌, List, [], ◌∷◌, ◌++◌, length, drop, set, slice_get, Option, Some, None, refl, sym, ap, subst, ◌∙◌, arith}
 use Rattle.std.proofs.lemmas.Bool.{and_parts}
-use Rattle.std.proofs.lemmas.Grind.{common_steps}
 use Rattle.omx_types.specs.declared.state.State.TheVariants.{Idle, Executing}
 use Rattle.part_forms.specs.Kinds.{is_late}
 use Rattle.il_machine.specs.declared.answer.Progress.{Progress}
 use Rattle.act_text.specs.declared.act.TextAct.{TextAct}
 use Rattle.script_lang.specs.declared.play_line.PartLine.{PartLine}
 use Rattle.conductor.specs.Phases.{all_told, has_settings}
-use Rattle.play_forms.proofs.Places.{Some_same, either}
+use Rattle.play_forms.proofs.Places.{either}
 use Rattle.play_forms.specs.Parts.{passes_at}
 use Rattle.play_forms.specs.Plans.{PlanValue}
 use Rattle.audit_order.specs.declared.ends.LinkEnds.{LinkEnds}
 use Rattle.audit_order.specs.declared.order.Change.{Change}
 use Rattle.audit_order.specs.Asked.{change_act}
 use Rattle.audit_order.specs.Ends.{link_of}
-use Rattle.audit_order.specs.Steps.{Admits, BeginsChange, BeginsSend, CanGoBack, ChangesOn, IsRested, OrderValue, SendsOn, both_disabled, is_changing, is_over, is_sending, last_told}
-use Rattle.audit_order.specs.Wanted.{HaveLinks, Wanted, always, change_by, from_changes, is_changed, may_change, may_go_back, send_to, sends_of, sinks_over, want, wanted}
+use Rattle.audit_order.specs.Steps.{Admits, CanGoBack, OrderValue, is_changing, is_over, is_sending, last_told}
+use Rattle.audit_order.specs.Wanted.{HaveLinks, Wanted, always, change_by, from_changes, is_changed, may_change, may_go_back, send_to, sends_of, sinks_over, want}
 use Rattle.audit_order.proofs.Left.{AreLeft, IsLawful, before_of, change_left, drop_past, late_there, left_by, left_first, left_less, left_none, left_of, may_make, over_changed, over_each, rest_changes, rest_none, send_left, sends_first}
 use Rattle.audit_order.proofs.InTime.{few_made, left_two, sent_all, small_made, still_sending}
 

@@ -1,10 +1,7 @@
 -- An act leads one way: of two values that admit it one is the other, since no two components have one name.
-use Rattle.std.proofs.Common.{◌≡◌, ◌⊎◌, inl, inr, ℕ, zero, suc, ◌+◌, Bool, true, false, ◌==◌, cond, List, [], ◌∷◌, length, slice_get, slice_set, Option, Some, None, find, refl, sym, ◌∙◌, ap, subst, arith}
-use Rattle.std.specs.List.{position_or_len}
+use Rattle.std.proofs.Common.{◌≡◌, ◌⊎◌, inl, inr, ℕ, ◌+◌, Bool, true, false, ◌==◌, List, [], ◌∷◌, slice_get, slice_set, Option, Some, None, find, refl, sym, ◌∙◌, ap, subst}
 use Rattle.std.proofs.lemmas.Bool.{eqb-true}
 use Rattle.std.proofs.lemmas.List.Folds.{find_at}
-use Rattle.omx_types.specs.declared.command.PortSel.{PortSel}
-use Rattle.omx_types.specs.declared.command.PortSel.TheVariants.{One}
 use Rattle.il_machine.specs.declared.answer.Progress.{Progress}
 use Rattle.act_text.specs.declared.act.TextAct.{TextAct}
 use Rattle.act_text.specs.declared.act.TextAct.TheVariants as lines
@@ -17,7 +14,7 @@ use Rattle.play_log.specs.Scenes.{HaveOwnNames}
 use Rattle.audit_order.specs.declared.ends.LinkEnds.{LinkEnds}
 use Rattle.audit_order.specs.declared.order.Change.{Change}
 use Rattle.audit_order.specs.Ends.{ends_by, gives, link_at, link_of, position_from}
-use Rattle.audit_order.specs.Steps.{Admits, BeginsChange, BeginsSend, ChangesOn, MayChange, OrderValue, SendsOn, is_changing}
+use Rattle.audit_order.specs.Steps.{Admits, BeginsChange, BeginsSend, ChangesOn, MayChange, OrderValue}
 
 -- ---- the name at the output of a link
 

@@ -10,7 +10,7 @@ use play_forms::Joint;
 use stream_plan::Plan;
 
 /// The two ports of a link, what is set of both, and the place of the component at its input.
-#[derive(Clone, Copy, Debug, PartialEq, Eq)]
+#[derive(Clone, Copy)]
 pub struct LinkEnds {
     pub output: PortName,
     pub input: PortName,

@@ -17,7 +17,7 @@ use std::marker::Model;
 use stream_plan::Plan;
 
 /// The change of a late source's link, by the source's place, and how many of its eight acts are made.
-#[derive(Clone, Copy, Debug, PartialEq, Eq)]
+#[derive(Clone, Copy)]
 pub struct Change {
     pub source: u32,
     pub made: u32,

@@ -63,6 +63,7 @@ impl Roster {
             × (result.1.1.len ≡ self.key.size) }
     {
         let Roster {} = self;
+        // Only the proof uses the number.
         let _ = number;
         (Roster {}, (Ticket {}, Room {}))
     }

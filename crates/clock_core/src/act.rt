@@ -3,7 +3,7 @@
 use thiserror::Error;
 
 /// What a clock is asked to do.
-#[derive(Clone, Copy, Debug, PartialEq, Eq)]
+#[derive(Clone, Copy)]
 pub enum ClockAct {
     /// Runs from that media time.
     Start(u64),
@@ -22,21 +22,21 @@ pub enum ClockAct {
 }
 
 /// A call at a wall moment.
-#[derive(Clone, Copy, Debug, PartialEq, Eq)]
+#[derive(Clone, Copy)]
 pub struct TimedAct {
     pub wall: u64,
     pub act: ClockAct,
 }
 
 /// A request that waits for its media time.
-#[derive(Clone, Copy, Debug, Default, PartialEq, Eq)]
+#[derive(Clone, Copy, Default)]
 pub struct Request {
     pub id: u64,
     pub media: u64,
 }
 
 /// A note: the request of that id was fulfilled at that wall moment.
-#[derive(Clone, Copy, Debug, Default, PartialEq, Eq)]
+#[derive(Clone, Copy, Default)]
 pub struct Fulfilled {
     pub id: u64,
     pub wall: u64,

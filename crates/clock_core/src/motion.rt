@@ -9,7 +9,7 @@ use crate::ClockAct;
 use crate::pace::{Pace, media_at};
 
 /// How the media time goes.
-#[derive(Clone, Copy, Debug, PartialEq, Eq)]
+#[derive(Clone, Copy)]
 pub enum Motion {
     Stopped,
     /// At the wall moment `since` the media time was `media`.

@@ -1,5 +1,5 @@
 -- How a comparison goes on, and why it comes to its end.
-use Rattle.std.proofs.Common.{◌≡◌, ℕ, ◌+◌, ◌<◌, ◌≤◌, max, min, List, [], length, Option, Some, None, sym, ap, subst, ◌∙◌, arith}
+use Rattle.std.proofs.Common.{◌≡◌, ℕ, ◌+◌, ◌<◌, ◌≤◌, max, min, List, [], Option, Some, None, sym, ap, subst, ◌∙◌, arith}
 use Rattle.outside_io.specs.Moves.{WhereTold}
 use Rattle.outside_io.specs.Stops.{GaveNothing}
 use Rattle.compared_files.specs.Comparing.{ComparingValue, HasMet, IsKept}

@@ -9,7 +9,7 @@ use std::alloc::Global;
 use std::marker::Model;
 
 /// Why a comparison came to its end.
-#[derive(Clone, Copy, Debug, PartialEq, Eq)]
+#[derive(Clone, Copy)]
 pub enum Met {
     /// A read of the file failed.
     Failed,
@@ -61,6 +61,7 @@ impl<S: Source> Comparing<S> {
         ensures differs { IsTrue result → WhereTold (S.told self.now.src) (λ known. IsFrontless known (given_by known self.now)) }
         ensures same { IsFalse result → self.now.other ≡ [] }
     {
+        // The proof learns from it that a file which tells its bytes has as many.
         let _size = self.src.size();
         !self.other.is_empty()
     }
@@ -82,6 +83,7 @@ impl<S: Source> Comparing<S> {
         ensures unmet { result ≡ None → self.now.failed ≡ 0 }
         ensures whole { WhereTold (S.told self.now.src) (λ known. S.size self.now.src ≡ length known) }
     {
+        // The proof learns from it that a file which tells its bytes has as many.
         let _size = self.src.size();
         self.met
     }

@@ -48,7 +48,7 @@ pub struct ConductingPass<S: Source, K: Sink, C: Client> {
 }
 
 /// What a round has come to.
-#[derive(Clone, Copy, Debug, PartialEq, Eq)]
+#[derive(Clone, Copy)]
 pub enum Round {
     /// Requests were made.
     Asks,

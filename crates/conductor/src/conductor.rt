@@ -18,7 +18,7 @@ use std::marker::Model;
 use stream_plan::Plan;
 
 /// Who says when a play goes on: what was sent so far, and what every component has told.
-#[derive(Debug, Drop)]
+#[derive(Drop)]
 pub struct Conductor {
     sinks: Vec<bool>,
     told: Vec<Progress>,

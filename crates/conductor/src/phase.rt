@@ -3,7 +3,7 @@
 use omx_types::State;
 
 /// A step of the change of a late source's link.
-#[derive(Clone, Copy, Debug, PartialEq, Eq)]
+#[derive(Clone, Copy)]
 pub enum ChangeStep {
     /// Both ends are disabled.
     Disable,
@@ -14,7 +14,7 @@ pub enum ChangeStep {
 }
 
 /// What a play does next.
-#[derive(Clone, Copy, Debug, PartialEq, Eq)]
+#[derive(Clone, Copy)]
 pub enum Phase {
     /// The state is sent to every component, in script order.
     Send(State),
@@ -26,7 +26,7 @@ pub enum Phase {
 }
 
 /// The link of a late source, and how far its change has come.
-#[derive(Clone, Copy, Debug, PartialEq, Eq)]
+#[derive(Clone, Copy)]
 pub struct LateLink {
     /// The source and the component that takes from it, by their places in script order.
     pub source: u32,

@@ -24,6 +24,7 @@ impl<C: Client> Core<C> {
         ensures few { length self.now.entries ≤ 32 }
         ensures out { (handle : Handle) → client_named handle self.now ≡ Some None → IsOut handle (look_of self.now) }
     {
+        // The proof learns from it what always holds of the graph.
         let _ = &self.components;
     }
 }

@@ -30,7 +30,7 @@ impl<P: Part> Model for Done<P> {
 }
 
 /// What a step came to: its frames, and the fault by which it failed.
-#[derive(Clone, Copy, Debug)]
+#[derive(Clone, Copy)]
 pub struct Brought {
     pub frames: u32,
     pub fault: Option<PartFault>,

@@ -3,14 +3,14 @@
 use crate::PortKey;
 
 /// Where a header is made and comes back to: the client, or the port that supplies its tunnel.
-#[derive(Clone, Copy, Debug, PartialEq, Eq)]
+#[derive(Clone, Copy)]
 pub enum Home {
     Client,
     Port(PortKey),
 }
 
 /// Who has a header. A component is named by its number: its work, or its queue of notes.
-#[derive(Clone, Copy, Debug, PartialEq, Eq)]
+#[derive(Clone, Copy)]
 pub enum Owner {
     Client,
     Port(PortKey),
@@ -19,7 +19,7 @@ pub enum Owner {
 }
 
 /// The list of its port in which a header waits: to be worked on, or to be sent. Out is no list.
-#[derive(Clone, Copy, Debug, PartialEq, Eq)]
+#[derive(Clone, Copy)]
 pub enum Queue {
     Out,
     Todo,
@@ -27,7 +27,7 @@ pub enum Queue {
 }
 
 /// Where a header is put among those of a port.
-#[derive(Clone, Copy, Debug, PartialEq, Eq)]
+#[derive(Clone, Copy)]
 pub enum Spot {
     TodoBack,
     TodoFront,
@@ -35,7 +35,7 @@ pub enum Spot {
 }
 
 /// What is known of a header beside what it carries (OpenMAX IL 1.1.2, `OMX_BUFFERHEADERTYPE`).
-#[derive(Clone, Copy, Debug, PartialEq, Eq)]
+#[derive(Clone, Copy)]
 pub struct HeaderState {
     pub number: u64,
     /// The port that it was made for; the supplier's of a tunnel.

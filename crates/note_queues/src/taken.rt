@@ -4,14 +4,14 @@ use header_core::Header;
 use omx_types::{Command, Event};
 
 /// A command that waits to be run, and how many places it reserves for its events.
-#[derive(Clone, Copy, Debug, PartialEq, Eq)]
+#[derive(Clone, Copy)]
 pub struct QueuedCommand {
     pub command: Command,
     pub cost: u32,
 }
 
 /// Why a command isn't queued.
-#[derive(Clone, Copy, Debug, PartialEq, Eq)]
+#[derive(Clone, Copy)]
 pub struct Full {
     pub queued: u32,
     pub room: u32,

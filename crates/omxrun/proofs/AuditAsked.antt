@@ -1,10 +1,9 @@
 -- The check of a log tells the fault that the files ask for.
-use Rattle.std.proofs.Common.{◌≡◌, ◌⊎◌, inl, inr, ℕ, ◌<◌, List, length, Option, Some, None, Result, Ok, Err, IsSome, IsTrue, ap, sym, subst, refl, ◌∙◌}
+use Rattle.std.proofs.Common.{◌≡◌, ◌⊎◌, inl, inr, ℕ, ◌<◌, List, length, Option, None, Result, Ok, Err, IsSome, IsTrue, ap, sym, subst, refl, ◌∙◌}
 use Rattle.outside_io.specs.Files.{Outside}
 use Rattle.omx_types.specs.declared.fault.AuditWhy.{AuditWhy}
 use Rattle.omx_types.specs.declared.fault.Fault.{Fault}
 use Rattle.omx_types.specs.declared.fault.Fault.TheVariants as Faults
-use Rattle.omx_types.specs.declared.fault.ScriptWhy.{ScriptWhy}
 use Rattle.omx_types.specs.declared.fault.Status.{Status}
 use Rattle.omx_types.specs.declared.fault.Status.TheVariants as Statuses
 use Rattle.omx_types.specs.declared.fault.Which.TheVariants as Files
@@ -12,14 +11,14 @@ use Rattle.script_lang.specs.declared.play_line.PartLine.{PartLine}
 use Rattle.script_lang.specs.declared.script.Script.{Script}
 use Rattle.play_files.proofs.FittedPlans.{fitted_later}
 use Rattle.audit_forms.specs.Audited.{Verdict, Yes, No}
-use Rattle.run_audit.specs.Faults.{AreThere, Asks, GiveHeads, GivesHead, GivesUpTo, IsBadLog, IsBadSource, IsFitBy}
+use Rattle.run_audit.specs.Faults.{AreThere, Asks, GiveHeads, GivesUpTo, IsBadLog, IsBadSource, IsFitBy}
 use Rattle.run_audit.proofs.FaultOfCall.{fault_asked, unjudged}
 use Rattle.run_audit.proofs.FaultOfFile.{IsOr, none_there}
 use Rattle.omxrun.specs.Asked.{IsFaultless, IsOrMemory}
 use Rattle.omxrun.specs.AuditFaults.{AsksAudit}
 use Rattle.omxrun.specs.Audits.{IsAuditOf, IsAuditOutcome, IsDecided, IsUndecided}
 use Rattle.omxrun.specs.Plays.{HasPlayReason, WasRead}
-use Rattle.omxrun.specs.Reports.{IsReported, status_of}
+use Rattle.omxrun.specs.Reports.{IsReported}
 use Rattle.omxrun.specs.declared.done.Done.{Done}
 use Rattle.omxrun.specs.declared.done.Done.TheVariants as Dones
 use Rattle.omxrun.proofs.Complete.{none-some, told-status}

@@ -1,5 +1,5 @@
 -- The check of a log that has a yes comes to a file that ends early, where there is one.
-use Rattle.std.proofs.Common.{◌≡◌, ◌⊎◌, inl, inr, ℕ, ◌<◌, ◌≤◌, List, length, Option, Some, Result, Ok, Err, IsSome, IsTrue, ap, sym, subst, refl, ◌∙◌, arith}
+use Rattle.std.proofs.Common.{◌≡◌, ◌⊎◌, inl, inr, ℕ, ◌<◌, ◌≤◌, List, length, Option, Result, Ok, Err, IsSome, IsTrue, ap, sym, subst, refl, ◌∙◌, arith}
 use Rattle.outside_io.specs.Files.{Outside}
 use Rattle.omx_types.specs.declared.fault.Fault.{Fault}
 use Rattle.omx_types.specs.declared.fault.Fault.TheVariants as Faults
@@ -15,13 +15,13 @@ use Rattle.run_audit.specs.Auditing.{IsLogFault, IsStepFault, IsUnaudited}
 use Rattle.run_audit.specs.Faults.{AreThere, GiveHeads, IsFitBy}
 use Rattle.run_audit.proofs.FaultOfCall.{sources_memory, unfit_never, unplanned_memory, writes_there}
 use Rattle.run_audit.proofs.FaultOfFile.{IsCalm, known_given, none_there}
-use Rattle.run_audit.proofs.Outcome.{parts_so}
+use Rattle.play_course.proofs.Logged.{parts_so}
 use Rattle.omxrun.specs.Asked.{IsFaultless}
 use Rattle.omxrun.specs.AuditFaults.{HasCutSink, IsShortOrMemory}
-use Rattle.omxrun.specs.Audits.{IsAuditOutcome, IsDecided, IsUndecided}
+use Rattle.omxrun.specs.Audits.{IsAuditOutcome, IsUndecided}
 use Rattle.omxrun.specs.Reports.{IsReported}
 use Rattle.omxrun.specs.declared.done.Done.{Done}
-use Rattle.omxrun.proofs.AuditAsked.{fits-later, heads-later, is-yes, no-or-none, there-later}
+use Rattle.omxrun.proofs.AuditAsked.{fits-later, heads-later, no-or-none, there-later}
 use Rattle.omxrun.proofs.Complete.{told-status}
 use Rattle.omxrun.proofs.PlayEnds.{PlayOnce, calm-later, calm-of, read-same, script-last}
 

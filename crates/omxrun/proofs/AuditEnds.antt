@@ -1,6 +1,5 @@
 -- Where all is told and given whole and no count rises, the check of a log comes to its verdict.
-use Rattle.std.proofs.Common.{◌≡◌, ◌⊎◌, inl, inr, ℕ, List, Option, Result, Ok, Err, IsTrue, ap, subst, refl, ◌∙◌, arith}
-use Rattle.outside_io.specs.Causes.{Rose}
+use Rattle.std.proofs.Common.{◌≡◌, ◌⊎◌, inl, inr, ℕ, List, Option, Result, Ok, Err, IsTrue, ap, subst, refl, ◌∙◌}
 use Rattle.outside_io.specs.Files.{Outside}
 use Rattle.omx_types.specs.declared.fault.AuditWhy.{AuditWhy}
 use Rattle.omx_types.specs.declared.fault.Fault.{Fault}
@@ -18,10 +17,10 @@ use Rattle.audit_files.specs.Left.{IsKnownFault}
 use Rattle.audit_forms.specs.Audited.{Verdict, Yes, No}
 use Rattle.audit_forms.specs.Whole.{IsAudited}
 use Rattle.run_audit.specs.Auditing.{IsLogFault, IsStepFault, IsUnaudited}
-use Rattle.omxrun.specs.Asked.{IsAsked, IsFaultless, IsGiven, IsOrMemory, IsSound}
+use Rattle.omxrun.specs.Asked.{IsFaultless, IsGiven, IsOrMemory, IsSound}
 use Rattle.omxrun.specs.Audits.{CanAudit, IsAuditOf, IsAuditOutcome, IsDecided, IsLeftByPlay, IsOfVerdict, IsUndecided, status_by}
 use Rattle.omxrun.specs.Plays.{WasRead}
-use Rattle.omxrun.specs.Reports.{IsReported, status_of}
+use Rattle.omxrun.specs.Reports.{IsReported}
 use Rattle.omxrun.specs.declared.done.Done.{Done}
 use Rattle.omxrun.proofs.AuditAsked.{is-yes, no-or-none}
 use Rattle.omxrun.proofs.Complete.{ReadsOnce, none-some, told-status}

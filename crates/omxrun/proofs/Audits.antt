@@ -1,15 +1,14 @@
 -- What the check of a log comes to, from before its script was read.
-use Rattle.std.proofs.Common.{◌≡◌, ◌≢◌, inl, inr, ℕ, List, length, Option, Some, Result, Ok, Err, IsTrue, IfOk, IfErr, OnOk, ap, sym, subst, refl, ◌∙◌}
+use Rattle.std.proofs.Common.{◌≡◌, ◌≢◌, inl, inr, ℕ, List, Option, Some, Result, Ok, Err, IsTrue, IfOk, IfErr, OnOk, ap, sym, subst, refl, ◌∙◌}
 use Rattle.outside_io.specs.Files.{CountsStand, Outside}
 use Rattle.omx_types.specs.declared.fault.AuditWhy.{AuditWhy}
 use Rattle.omx_types.specs.declared.fault.Fault.{Fault}
 use Rattle.omx_types.specs.declared.fault.Fault.TheVariants as Faults
 use Rattle.script_lang.specs.PlayScripts.{IsPlayScript}
 use Rattle.script_lang.specs.declared.script.Script.{Script}
-use Rattle.script_lang.specs.declared.play_line.PartLine.{PartLine}
 use Rattle.play_forms.specs.declared.plan_fault.PlanFault.{PlanFault}
 use Rattle.play_forms.specs.declared.plan_fault.PlanFault.TheVariants as Plans
-use Rattle.play_result_laws.specs.Files.{IsNoSink, IsReader, IsWriter}
+use Rattle.play_result_laws.specs.Files.{IsNoSink, IsWriter}
 use Rattle.play_forms.specs.Faults.{fault_of_plan}
 use Rattle.play_files.specs.Names.{HaveOwnFiles}
 use Rattle.play_course.specs.Settling.{parts_of}

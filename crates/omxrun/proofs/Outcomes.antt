@@ -1,6 +1,6 @@
 -- What a play comes to, from before its script was read.
 use Rattle.std.proofs.Common.{◌≡◌, ◌≢◌, inl, inr, ℕ, ◌+◌, ◌<◌, ◌≤◌, List, [], ◌∷◌, length, Option, Some, None, Result, Ok, Err, IsTrue, IsSome, ap, refl, ◌∙◌, arith}
-use Rattle.outside_io.specs.Files.{CountsStand, GoesOn, Outside}
+use Rattle.outside_io.specs.Files.{Outside}
 use Rattle.outside_io.specs.Whole.{HasReadReason, WasOpened}
 use Rattle.outside_io.specs.declared.whole.Unread.{Unread}
 use Rattle.outside_io.specs.declared.whole.Unread.TheVariants as Unreads

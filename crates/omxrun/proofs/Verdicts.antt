@@ -13,7 +13,6 @@ use Rattle.play_result_laws.specs.Worlds.{IsEnding}
 use Rattle.audit_lines.specs.Lines.{pieces_of}
 use Rattle.audit_forms.specs.Audited.{Audits, Case, Verdict, Yes}
 use Rattle.audit_forms.specs.Whole.{IsAudited, IsVerdict, case_of, start_at}
-use Rattle.audit_laws.specs.Played.{IsPlayedBy}
 use Rattle.omxrun.specs.Audits.{NamesPlay}
 use Rattle.omxrun.proofs.Files.{files-before}
 

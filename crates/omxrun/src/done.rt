@@ -3,7 +3,7 @@
 use rtp_parts::{Packed, Unpacked};
 
 /// What a command that makes files, turns one into another, or checks a log, prints once it was done whole.
-#[derive(Clone, Copy, Debug, PartialEq, Eq)]
+#[derive(Clone, Copy)]
 pub enum Done {
     /// Files of that many frames were made.
     Made { frames: u64 },

@@ -78,6 +78,7 @@ fn open_both<M: Media>(
     ensures stand { OnOk result (CountsStand (M.outside media.old) (M.outside media.new)) }
     ensures unabsent { AreAbsencesTold (M.outside media.old) (M.outside media.new) result }
 {
+    // The proof learns from it that the count of failed reads is a number of 64 bits.
     let _read_faults = media.read_faults();
     let source = match media.source(alloc, input) {
         Ok(source) => source,
@@ -118,6 +119,7 @@ fn close_both<M: Media>(
     ensures names { (M.outside media.new).failed_reads ≡ with_name (M.Src.name opened.input) (M.Src.faults opened.input) (M.outside media.old).failed_reads }
     ensures writes { sum_of_counts (M.outside media.old).write_faults (M.Snk.faults opened.output) ≤ (M.outside media.new).write_faults }
 {
+    // The proof learns from it that both counts are numbers of 64 bits.
     let _counts = (media.read_faults(), media.write_faults());
     let Opened { input, output } = opened;
     media.close_source(input);

@@ -38,6 +38,7 @@ impl Text {
         ensures bytes { self.new ≡ self.old ++ piece.now }
         ensures len { length self.new ≡ length self.old + length piece.now }
     {
+        // The room is required, so nothing is refused.
         let _ = self.bytes.try_extend_from_slice(piece);
     }
 

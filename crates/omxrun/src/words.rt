@@ -186,6 +186,7 @@ fn are_pair(input: &str, output: &str) -> bool
 fn is_make(seed: u64, frames: u64, folder: &str) -> bool
     ensures { IsTrue result ↔ IsMake seed frames folder.now }
 {
+    // Any seed will do.
     let _any_seed = seed;
     frames <= 33_000_000 && is_name(folder) && folder.len() <= 1016
 }

@@ -223,6 +223,7 @@ fn open_sink<R: Files<File = File> + Eprint>(
 fn empty(file: &File, id: FileId, metadata: &Metadata, other: OtherFile) -> io::Result<()>
     requires compared { other.id ≡ id }
 {
+    // Only the requirement uses it: no file is emptied that wasn't compared.
     let _compared = other;
     if metadata.is_file() {
         file.set_len(0)

@@ -5,7 +5,7 @@ ghost use Rattle.std.specs.Prelude.{◌≡◌, string_bytes};
 use std::marker::Model;
 
 /// A kind of call that is to fail.
-#[derive(Clone, Copy, Debug, PartialEq, Eq)]
+#[derive(Clone, Copy)]
 pub enum FailKind {
     OpenSource,
     Read,
@@ -20,7 +20,7 @@ pub enum FailKind {
 }
 
 /// The name of a file.
-#[derive(Debug, Drop)]
+#[derive(Drop)]
 pub struct FileName {
     text: String,
 }
@@ -57,7 +57,7 @@ impl FileName {
 }
 
 /// The nth call of that kind on that name fails, counted from 1. For `EndAt` the source gives nothing from offset `nth` on.
-#[derive(Debug, Drop)]
+#[derive(Drop)]
 pub struct Fail {
     pub name: FileName,
     pub kind: FailKind,

@@ -3,7 +3,7 @@
 use omx_types::Format;
 
 /// The frames for which a file came, and the format of one that is read.
-#[derive(Clone, Copy, Debug, PartialEq, Eq)]
+#[derive(Clone, Copy)]
 pub enum Attached {
     From { format: Format, frames: u64 },
     To { frames: u64 },

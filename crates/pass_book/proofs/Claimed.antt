@@ -1,17 +1,15 @@
 -- The work that a claim gives is that of the component that was named.
-use Rattle.std.proofs.Common.{◌≡◌, ℕ, Bool, List, [], ◌∷◌, ◌++◌, Option, Some, None, Result, Ok, Err, refl, sym, ◌∙◌, ap, subst}
+use Rattle.std.proofs.Common.{◌≡◌, ℕ, Bool, List, [], ◌∷◌, ◌++◌, Option, Some, None, Ok, refl, sym, ◌∙◌, ap, subst}
 use Rattle.omx_types.specs.declared.handle.Handle.{Handle}
 use Rattle.il_machine.specs.Acts as acts
 use Rattle.il_machine.specs.Answers.{plain}
 use Rattle.il_machine.specs.Claims.{Claim, Claimed, ClaimedWork, Claims, WorkSeen, claim_idle}
 use Rattle.il_machine.specs.Look.{look}
 use Rattle.il_machine.specs.Run.{Step}
-use Rattle.il_machine.specs.Whole.{Stands}
 use Rattle.il_machine.specs.World.{Component, World, number_of}
 use Rattle.history_laws.proofs.GivenHeaders.{resolved}
 use Rattle.history_laws.proofs.WorkSteps.{IsIdle, claim_is_idle}
 use Rattle.il_flow.specs.Works.{seen_work}
-use Rattle.il_graph.specs.Shown as graphs
 use Rattle.state_words.specs.Shown.{States}
 use Rattle.turnstile.specs.declared.entry.Entry.{Entry}
 use Rattle.turnstile.specs.declared.view.View.{View}
@@ -21,13 +19,12 @@ use Rattle.graph_acts.specs.declared.act.Act.TheVariants as asks
 use Rattle.graph_acts.specs.declared.act.Reply.{Reply}
 use Rattle.graph_acts.specs.declared.act.Reply.TheVariants as replies
 use Rattle.graph_acts.specs.declared.claimed.LentClaim.TheVariants as lent
-use Rattle.graph_acts.specs.Plain.{Sight, plain_act, plain_reply}
+use Rattle.graph_acts.specs.Plain.{Sight}
 use Rattle.board.specs.declared.asked.Asked.{Asked}
 use Rattle.board.specs.declared.asked.Told.{Told}
 use Rattle.board.specs.declared.watched.Watched.{Watched}
 use Rattle.board.specs.Asking.{ArePlain, IsPlain, bare_log}
 use Rattle.board.specs.Boards.{IsCalled}
-use Rattle.board.specs.Histories.{Legal, graph_of}
 use Rattle.board.specs.Watching.{Shown, next, start}
 use Rattle.board.proofs.Bare.{bare_snoc}
 use Rattle.pass_book.specs.Books.{IsItsWork}

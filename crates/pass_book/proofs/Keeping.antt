@@ -1,5 +1,5 @@
 -- What is kept of a book over its calls.
-use Rattle.std.proofs.Common.{◌≡◌, ℕ, ◌+◌, ◌==◌, ◌<◌, List, [], ◌∷◌, ◌++◌, length, map, All, Bool, true, false, Option, Some, None, IfSome, option_map, sym, refl, ap, ◌∙◌, subst, arith, eq-eqb, append_assoc, append-nil}
+use Rattle.std.proofs.Common.{◌≡◌, ℕ, ◌+◌, ◌==◌, ◌<◌, List, [], ◌∷◌, ◌++◌, All, Bool, false, Option, IfSome, option_map, sym, refl, ap, ◌∙◌, subst, append_assoc, append-nil}
 use Rattle.std.proofs.lemmas.List.Elements.{All-append, All-cons, All-nil}
 use Rattle.il_machine.specs.declared.answer.Progress.{Progress}
 use Rattle.header_core.specs.BufferHeader.{BufferHeader}
@@ -11,7 +11,6 @@ use Rattle.graph_acts.specs.declared.act.Act.{Act}
 use Rattle.graph_acts.specs.declared.act.Reply.{Reply}
 use Rattle.graph_acts.specs.Holding.{May, OutClient, clients_held, headers_held, works_held}
 use Rattle.graph_acts.specs.Plain.{Sight}
-use Rattle.graph_acts.specs.Replying.{IsReplyTo}
 use Rattle.graph_acts.specs.Working.{OutWork}
 use Rattle.board.specs.declared.asked.Asked.{Asked}
 use Rattle.board.specs.declared.asked.Told.{Told}
@@ -20,9 +19,8 @@ use Rattle.board.specs.declared.pass.BoardPass.{BoardPass}
 use Rattle.board.specs.declared.row.ActRow.{ActRow}
 use Rattle.board.specs.Asking.{bare_log}
 use Rattle.board.specs.Boards.{IsCalled, IsOf, clients, clients_after, first_of, headers, headers_after, own_calls, pass_view, works, works_after}
-use Rattle.board.specs.Rows.{entries_of}
 use Rattle.board.proofs.Bare.{bare_snoc}
-use Rattle.play_log.specs.Choosing.{chosen, picked}
+use Rattle.play_log.specs.Choosing.{picked}
 use Rattle.play_log.specs.Lines.{IsLogLine, LogLine}
 use Rattle.play_log.specs.Places.{IsKeptAt, PassLogValue, PlacedLine}
 use Rattle.pass_lines.specs.Passes.{lines_of}
@@ -35,7 +33,7 @@ use Rattle.pass_book.specs.declared.quiet.QuietReply.TheVariants as answers
 use Rattle.work_signs.specs.declared.seat.Seat.{Seat}
 use Rattle.pass_book.specs.Books.{GoesOn, IsBook, IsFresh, IsPlayCall, IsRowAtRest, Made}
 use Rattle.pass_book.specs.Moves.{Adds, HoldsAsBefore, IsMove, Moves}
-use Rattle.pass_book.specs.Quiet.{AreQuietReplies, IsQuietOfPlay, IsQuietReply, act_of, reply_of}
+use Rattle.pass_book.specs.Quiet.{IsQuietOfPlay, IsQuietReply, act_of, reply_of}
 use Rattle.pass_book.specs.Saying.{line_by, line_of, said_of}
 use Rattle.pass_book.specs.Seats.{IsOfPlay, names_of}
 

@@ -1,5 +1,5 @@
 -- The line of a call that is told to a log.
-use Rattle.std.proofs.Common.{◌≡◌, ℕ, List, [], ◌∷◌, ◌++◌, Bool, true, false, Option, Some, None, IfSome, Result, Ok, Err, OnOk, OnErr, if◌then◌else◌, refl, sym, ap, ◌∙◌, subst}
+use Rattle.std.proofs.Common.{◌≡◌, ℕ, List, [], ◌∷◌, ◌++◌, Bool, true, false, None, IfSome, Result, Ok, Err, OnOk, OnErr, if◌then◌else◌, refl, sym, ap, ◌∙◌, subst}
 use Rattle.il_machine.specs.declared.answer.Acted.TheVariants as acted
 use Rattle.omx_types.specs.declared.error.CallError.TheVariants.{Omx, OutOfMemory}
 use Rattle.note_queues.specs.declared.taken.Taken.{Taken}

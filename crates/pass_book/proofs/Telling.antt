@@ -1,7 +1,7 @@
 -- What a book's line says is what the machine's act and reply are.
-use Rattle.std.proofs.Common.{◌≡◌, ◌⊎◌, inl, inr, ℕ, ◌<◌, arith, get_or, [], ◌∷◌, Bool, true, false, List, length, slice_get, Option, Some, None, IfSome, Result, Ok, Err, refl, sym, ◌∙◌, ap, subst}
+use Rattle.std.proofs.Common.{◌≡◌, ◌⊎◌, inl, inr, ℕ, ◌<◌, arith, get_or, [], ◌∷◌, true, false, List, length, slice_get, Option, Some, None, IfSome, Ok, Err, refl, sym, ◌∙◌, ap, subst}
 use Rattle.omx_types.specs.declared.command.Command.{Command}
-use Rattle.omx_types.specs.declared.command.Command.TheVariants.{StateSet, Flush, PortDisable, PortEnable, MarkBuffer}
+use Rattle.omx_types.specs.declared.command.Command.TheVariants.{StateSet, PortDisable, PortEnable}
 use Rattle.omx_types.specs.declared.error.CallError.TheVariants.{Omx, OutOfMemory}
 use Rattle.omx_types.specs.declared.handle.Handle.{Handle}
 use Rattle.omx_types.specs.declared.param.Param.{Param}
@@ -31,18 +31,16 @@ use Rattle.graph_acts.specs.declared.act.Reply.{Reply}
 use Rattle.graph_acts.specs.declared.act.Reply.TheVariants as replies
 use Rattle.graph_acts.specs.declared.claimed.LentClaim.{LentClaim}
 use Rattle.graph_acts.specs.declared.claimed.LentClaim.TheVariants as claims
-use Rattle.graph_acts.specs.Holding.{header_in, took_header}
-use Rattle.graph_acts.specs.Lending.{told_by}
+use Rattle.graph_acts.specs.Holding.{header_in}
 use Rattle.graph_acts.specs.Plain.{Sight, Unsaid, plain_act, plain_reply}
 use Rattle.graph_acts.specs.Replying.{IsReplyTo}
 use Rattle.board.specs.Asking.{IsPlain}
-use Rattle.part_api.specs.Terms.{Terms}
-use Rattle.play_log.specs.Entries.{is_unprinted, is_idle, is_without_note, is_without_work}
-use Rattle.play_log.specs.Saying.{Of, Says, SaysAct, SaysReply, did, key, or_error, took, claimed}
+use Rattle.play_log.specs.Entries.{is_unprinted}
+use Rattle.play_log.specs.Saying.{Of, Says, SaysAct, SaysReply, took}
 use Rattle.play_log.specs.Scenes.{IsPlayer, Scene}
 use Rattle.work_signs.specs.declared.seat.Seat.{Seat}
 use Rattle.pass_book.specs.Saying.{act_said, both_said, claim_said, command_said, event_said, frames_of, line_by, note_said, param_said, port_of, reply_said, said_of}
-use Rattle.pass_book.specs.Scenes.{AreSeatsIn, HasNoText, IsSeatIn}
+use Rattle.pass_book.specs.Scenes.{AreSeatsIn, HasNoText}
 use Rattle.pass_book.specs.Seats.{IsDefinition, IsOfPlay, IsPlayCommand, IsSeated, name_in, names_of}
 use Rattle.pass_book.proofs.Seated.{seated_by}
 

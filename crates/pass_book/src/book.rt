@@ -118,6 +118,7 @@ impl<S: Source, K: Sink, C: Client> Book<S, K, C> {
         if let (Some(act), Some(reply)) = (act, reply) {
             let said = ActText { act, reply };
             law_of_lines(self.number, &said);
+            // A line that has no memory leaves the log broken, as it says itself.
             let _ = self.log.entry(place, self.number, slot, &said);
         }
     }

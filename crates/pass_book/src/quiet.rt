@@ -10,7 +10,7 @@ use omx_types::{CallError, Command, Handle, OmxError, Param, ParamKey, PortId, S
 use outside_io::{Sink, Source};
 
 /// One such call of a graph with its arguments, in their order.
-#[derive(Clone, Copy, Debug, PartialEq, Eq)]
+#[derive(Clone, Copy)]
 pub enum QuietAct {
     Progress(Handle),
     SetParameter(Handle, ParamKey, Param),
@@ -25,7 +25,7 @@ pub enum QuietAct {
 }
 
 /// What the call answers.
-#[derive(Clone, Copy, Debug, PartialEq, Eq)]
+#[derive(Clone, Copy)]
 pub enum QuietReply {
     Progress(Result<Option<Progress>, OmxError>),
     SetParameter(Result<(), OmxError>),

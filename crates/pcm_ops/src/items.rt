@@ -56,6 +56,7 @@ pub(crate) fn each_sum_fits(sums: &[i32])
     ensures { (k : ℕ) → k < length sums.now → FitsSigned w32 (slice_index_or sums.now k (pos 0)) }
 {
     for sum in sums {
+        // The proof learns from it the number's range.
         let _sum = *sum;
     }
 }

@@ -18,7 +18,7 @@ use stream_plan::Plan;
 use wav_form::head_bytes;
 
 /// A sink, by the place of its component in the script: its frames, and the bytes of its file.
-#[derive(Clone, Copy, Debug, PartialEq, Eq)]
+#[derive(Clone, Copy)]
 pub struct SinkLine {
     pub component: u32,
     pub frames: u64,
@@ -26,7 +26,7 @@ pub struct SinkLine {
 }
 
 /// Each sink once, in script order.
-#[derive(Debug, Drop)]
+#[derive(Drop)]
 pub struct Summary {
     sinks: Vec<SinkLine>,
 }

@@ -74,6 +74,7 @@ pub fn open_files<M: Media>(
     match open_planned(alloc, media, &mut plan, &mut heads, &mut files) {
         Ok(()) => Ok(Opened { plan, files }),
         Err(fault) => {
+            // The first fault is told, not one of a closing.
             let _ = close_files(media, files);
             Err(fault)
         }

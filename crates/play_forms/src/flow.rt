@@ -3,7 +3,7 @@
 use omx_types::Format;
 
 /// What goes through a link: frames of one format.
-#[derive(Clone, Copy, Debug, PartialEq, Eq)]
+#[derive(Clone, Copy)]
 pub struct Flow {
     pub format: Format,
     pub frames: u64,

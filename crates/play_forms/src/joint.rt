@@ -1,7 +1,7 @@
 //! A link of a play: its line, its two components and their ports, and the number and size of its headers.
 
 /// A link of a play, with its two components by their places in script order.
-#[derive(Clone, Copy, Debug, PartialEq, Eq)]
+#[derive(Clone, Copy)]
 pub struct Joint {
     /// The number of its script line.
     pub line: u32,

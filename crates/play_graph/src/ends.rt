@@ -84,6 +84,7 @@ fn set_end<S: Source, K: Sink>(
         index: 1,
         port: index_at(joint, end),
     };
+    // Nothing refuses it where the graph stands so.
     let _ = graph.set_parameter(h, key, Param::Port(definition(plan, end, link)));
 }
 

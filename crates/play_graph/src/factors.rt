@@ -66,6 +66,7 @@ fn set_factor<S: Source, K: Sink>(
 {
     let kind = kind_of(&plan.parts()[place as usize].form);
     let h = handle(graph, place);
+    // Nothing refuses it where the graph stands so.
     let _ = graph.set_config(h, factor_key(kind, input), factor_value(kind, factor));
 }
 

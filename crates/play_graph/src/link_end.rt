@@ -6,7 +6,7 @@ ghost use Rattle.play_graph.specs.LinkEnds.{at_input, index_by, place_by};
 use play_forms::Joint;
 
 /// An end of a link.
-#[derive(Clone, Copy, Debug, PartialEq, Eq)]
+#[derive(Clone, Copy)]
 pub enum End {
     Output,
     Input,

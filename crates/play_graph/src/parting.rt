@@ -31,6 +31,7 @@ fn part<S: Source, K: Sink>(graph: &mut Graph<S, K, PlayClient>, plan: &Plan, li
         handle: handle(graph, joint.taker),
         index: joint.input,
     };
+    // Nothing refuses it where the graph stands so.
     let _ = graph.drop_tunnel(output, input);
 }
 

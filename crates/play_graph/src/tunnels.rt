@@ -27,6 +27,7 @@ fn join<S: Source, K: Sink>(graph: &mut Graph<S, K, PlayClient>, plan: &Plan, li
         handle: handle(graph, joint.taker),
         index: joint.input,
     };
+    // Nothing refuses it where the graph stands so.
     let _ = graph.setup_tunnel(output, input);
 }
 

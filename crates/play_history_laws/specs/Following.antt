@@ -5,6 +5,7 @@ use Rattle.il_machine.specs.Due.{IsClosed}
 use Rattle.il_machine.specs.World.{Component, World}
 use Rattle.play_model.specs.Acts.{Act, acted}
 use Rattle.play_model.specs.Changes.{Change, IsChanged, port_at}
+use Rattle.play_model.specs.Numbers.{to_executing, state_told}
 use Rattle.play_model.specs.Play.{Layout, Play}
 use Rattle.play_world_laws.specs.Cast.{Cast, components_of, links_of, script_place}
 use Rattle.play_stream_laws.specs.Contents.{PlayContents}
@@ -18,8 +19,8 @@ use Rattle.play_history_laws.specs.Order.{Cursor}
 abbrev pub IsTurn : Cast → Cursor → ℕ → Play → Option ℕ → Type 0
 IsTurn cast cursor recent play None = (link : ℕ) → link < links_of cast → (cast.layout).is_late link ≡ true → (cursor.made link ≡ 0) ⊎ IsChanged (play.change link)
 IsTurn cast cursor recent play (Some last) =
-    (play.phase ≡ 2) × (recent ≡ last) × (last < links_of cast) × ((cast.layout).is_late last ≡ true) × (1 ≤ cursor.made last)
-    × ((component : ℕ) → component < components_of cast → play.stage component ≡ 4)
+    (play.phase ≡ to_executing) × (recent ≡ last) × (last < links_of cast) × ((cast.layout).is_late last ≡ true) × (1 ≤ cursor.made last)
+    × ((component : ℕ) → component < components_of cast → play.stage component ≡ state_told)
     × ((link : ℕ) → link < links_of cast → (cast.layout).is_late link ≡ true → link ≢ last → (cursor.made link ≡ 0) ⊎ IsChanged (play.change link))
 
 -- So much was asked in the play.

@@ -10,6 +10,7 @@ use Rattle.il_machine.specs.declared.answer.Progress.{Progress}
 use Rattle.il_machine.specs.Acts.{Act}
 use Rattle.il_machine.specs.Acts as acts
 use Rattle.il_machine.specs.World.{Component, World}
+use Rattle.play_model.specs.Numbers.{unbegun, to_executing, to_loaded}
 use Rattle.play_model.specs.Play.{component_at}
 use Rattle.play_world_laws.specs.Cast.{Cast, components_of, giver_of, links_of, script_place, taker_of}
 use Rattle.play_world_laws.specs.Standing.{target}
@@ -30,7 +31,7 @@ pub record Cursor : Type 0 where
 
 -- nothing was asked
 abbrev pub nothing_asked : Cast → Cursor
-nothing_asked cast = record { phase = 0; sent = components_of cast; made = λ link. 0; changing = None }
+nothing_asked cast = record { phase = unbegun; sent = components_of cast; made = λ link. 0; changing = None }
 
 -- ---- what was told
 
@@ -78,10 +79,10 @@ pub record GoesOn (cast : Cast) (cursor : Cursor) (world : World) (act : Act) (n
 
 -- The next one begins: before the second Idle all links of late sources are changed, and each sink has told the end of its stream.
 pub record Begins (cast : Cast) (cursor : Cursor) (world : World) (act : Act) (next : Cursor) : Type 0 where
-  pub more : cursor.phase < 4
+  pub more : cursor.phase < to_loaded
   pub done : IsDone cast cursor world
-  pub changed : cursor.phase ≡ 2 → (link : ℕ) → link < links_of cast → (cast.layout).is_late link ≡ true → cursor.made link ≡ 8
-  pub ends : cursor.phase ≡ 2 → EachHasHeard cast world (λ number progress. (cast.layout).is_sink number ≡ true → progress.eos ≡ true)
+  pub changed : cursor.phase ≡ to_executing → (link : ℕ) → link < links_of cast → (cast.layout).is_late link ≡ true → cursor.made link ≡ 8
+  pub ends : cursor.phase ≡ to_executing → EachHasHeard cast world (λ number progress. (cast.layout).is_sink number ≡ true → progress.eos ≡ true)
   pub sends : IsSending cast world (cursor.phase + 1) 0 act
   pub after : next ≡ record { phase = cursor.phase + 1; sent = 1; made = cursor.made; changing = None }
 
@@ -124,7 +125,7 @@ one_more link cursor = record { phase = cursor.phase; sent = cursor.sent; made =
 -- The first act of a change: what was asked before is done, and its source has told that its settings changed. Where several have, it may
 -- be the link of any of them.
 pub record Changes (cast : PlayCast) (cursor : Cursor) (world : World) (act : Act) (next : Cursor) : Type 0 where
-  pub phase : cursor.phase ≡ 2
+  pub phase : cursor.phase ≡ to_executing
   pub done : IsDone cast.cast cursor world
   pub link : ℕ
   pub below : link < links_of cast.cast

@@ -4,6 +4,7 @@ use Rattle.std.specs.Prelude.{◌≡◌, ℕ, ◌+◌, ◌≤◌, Bool, true, fa
 use Rattle.omx_types.specs.declared.handle.Handle.{Handle}
 use Rattle.il_machine.specs.Acts.{Act, Reply}
 use Rattle.il_machine.specs.Acts as acts
+use Rattle.play_model.specs.Numbers.{to_loaded}
 use Rattle.play_build_laws.specs.Assembly.{Assembly}
 use Rattle.play_forms.specs.Plans.{PlanValue}
 use Rattle.play_plan_laws.specs.Assemblies.{PlayFiles}
@@ -49,4 +50,4 @@ pub record IsOrdered (plan : PlanValue) (files : PlayFiles) (handles : List Hand
   pub links : List ℕ
   pub left : List (Act × Reply)
   pub are : AreRequested (tuned plan files) handles links left steps
-  pub whole : cursor.phase ≡ 4 → length plan.parts ≤ cursor.sent → left ≡ []
+  pub whole : cursor.phase ≡ to_loaded → length plan.parts ≤ cursor.sent → left ≡ []

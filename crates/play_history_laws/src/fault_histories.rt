@@ -10,6 +10,7 @@ ghost use Rattle.il_machine.specs.Sound.{Sound};
 ghost use Rattle.il_machine.specs.World.{Component, Stream, World, place_of};
 ghost use Rattle.history_laws.specs.GivenIn.{given_in};
 ghost use Rattle.play_model.specs.Content.{ArePlain};
+ghost use Rattle.play_model.specs.Numbers.{to_loaded};
 ghost use Rattle.play_model.specs.Play.{Play};
 ghost use Rattle.play_model.specs.Reached.{IsOver};
 ghost use Rattle.play_world_laws.specs.Telling.{heard, progress_by};
@@ -48,7 +49,7 @@ pub fn law_of_fault_histories()
     ensures stays { (cast : PlayCast) (steps : List (Act × Reply)) (cursor : Cursor) (world after : World)
         → Run world steps after → All (λ step. IsUnasked step.0 ⊎ IsFailedStep step.0) steps → IsFaultHistory cast cursor world steps cursor after }
     ensures over { (cast : PlayCast) (cursor : Cursor) (recent : ℕ) (play : Play) (streams : List Stream) (world : World)
-        → IsFaulty cast cursor recent play streams world → cursor.phase ≡ 4
+        → IsFaulty cast cursor recent play streams world → cursor.phase ≡ to_loaded
         → ((place : ℕ) (component : Component) → slice_get world.components place ≡ Some component → IsLoadedAt component)
         → IsOver (cast.cast).layout play }
     ensures whole { (cast : PlayCast) (steps : List (Act × Reply)) (cursor : Cursor) (recent : ℕ) (play : Play) (streams : List Stream) (world : World)

@@ -8,6 +8,7 @@ ghost use Rattle.il_machine.specs.Due.{IsClosed};
 ghost use Rattle.il_machine.specs.Run.{Meets, Step};
 ghost use Rattle.il_machine.specs.World.{Component, World};
 ghost use Rattle.play_model.specs.Content.{ArePlain};
+ghost use Rattle.play_model.specs.Numbers.{to_loaded};
 ghost use Rattle.play_model.specs.Play.{Play};
 ghost use Rattle.play_model.specs.Reached.{IsOver};
 ghost use Rattle.play_world_laws.specs.Openings.{opening};
@@ -34,7 +35,7 @@ pub fn law_of_play_histories()
         → Meets world act → Step world act reply after → IsAllowed cast cursor (inside world) act next → HasTaken cast cursor recent play next world after }
     ensures comes { (cast : PlayCast) (steps : List (Act × Reply)) (cursor : Cursor) (recent : ℕ) (play : Play) (world : World) (next : Cursor) (after : World)
         → IsTaken cast cursor recent play world → IsPlayHistory cast cursor world steps next after → HasTaken cast cursor recent play next world after }
-    ensures over { (cast : PlayCast) (cursor : Cursor) (recent : ℕ) (play : Play) (world : World) → IsTaken cast cursor recent play world → cursor.phase ≡ 4
+    ensures over { (cast : PlayCast) (cursor : Cursor) (recent : ℕ) (play : Play) (world : World) → IsTaken cast cursor recent play world → cursor.phase ≡ to_loaded
         → ((place : ℕ) (component : Component) → slice_get world.components place ≡ Some component → IsLoadedAt component)
         → IsOver (cast.cast).layout play }
     ensures whole { (cast : PlayCast) (contents : PlayContents) (cursor : Cursor) (recent : ℕ) (play : Play) (world : World) (stream : ℕ → List ℕ)

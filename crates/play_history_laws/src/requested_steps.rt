@@ -6,6 +6,7 @@ ghost use Rattle.omx_types.specs.declared.state.State.TheVariants.{Loaded};
 ghost use Rattle.il_machine.specs.Acts.{Act, Reply};
 ghost use Rattle.il_machine.specs.Run.{Run, Step};
 ghost use Rattle.il_machine.specs.World.{Component, World};
+ghost use Rattle.play_model.specs.Numbers.{to_loaded};
 ghost use Rattle.play_build_laws.specs.Assembly.{Assembly};
 ghost use Rattle.play_build_laws.specs.Stages.{IsStage, Joining};
 ghost use Rattle.play_forms.specs.Plain.{sink_text};
@@ -34,7 +35,7 @@ pub fn law_of_requested_steps()
     ensures goes { (plan : PlanValue) (files : PlayFiles) (handles : List Handle) (world : World)
         → IsReady plan files → IsStage (assembly_of plan files) (Joining (length plan.joints)) handles world
         → (links : List ℕ) (left steps : List (Act × Reply)) → AreRequested (tuned plan files) handles links left steps → (after : World) → Run world steps after
-        → (cursor : Cursor) × IsPlanHistory plan files handles world steps cursor after × (left ≡ [] → 1 ≤ length plan.parts → cursor.phase ≡ 4) }
+        → (cursor : Cursor) × IsPlanHistory plan files handles world steps cursor after × (left ≡ [] → 1 ≤ length plan.parts → cursor.phase ≡ to_loaded) }
     ensures conducted { (assembly : Assembly) (handles : List Handle) (steps : List (Act × Reply)) → (conducted : IsConducted assembly handles steps)
         → AreRequested assembly handles conducted.links [] steps }
     ensures asks { (plan : PlanValue) (files : PlayFiles) (handles : List Handle) (world : World) (steps : List (Act × Reply)) (cursor : Cursor) (after : World)

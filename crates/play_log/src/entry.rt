@@ -3,7 +3,7 @@
 use act_text::ActText;
 
 /// An act of a play, with its reply.
-#[derive(Clone, Copy, Debug, PartialEq, Eq)]
+#[derive(Clone, Copy)]
 pub struct Entry {
     /// How many acts of all passes were made before it.
     pub place: u64,

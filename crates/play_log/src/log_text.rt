@@ -106,6 +106,7 @@ pub(crate) fn put_pieces<K: Sink>(
     ensures keeps_sink { KeepsSink K.Sink sink.old sink.new }
     ensures cause { HasCause (K.faults sink.old) (K.faults sink.new) result }
 {
+    // The proof learns from it that there are fewer lines than 2^64.
     let _most = most;
     let mut number = 0;
     for piece in pieces {

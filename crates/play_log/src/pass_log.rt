@@ -116,6 +116,7 @@ impl PassLog {
         ensures keeps_sink { KeepsSink K.Sink sink.old sink.new }
         ensures cause { HasCause (K.faults sink.old) (K.faults sink.new) result }
     {
+        // The proof learns from it that there are fewer lines than 2^64.
         let _count = self.count;
         let Some(placed) = self.lines.get(at) else {
             unreachable!()

@@ -3,7 +3,7 @@
 use crate::line::Line;
 
 /// A line, and how many acts of all passes were made before its own, in sixteen bytes.
-#[derive(Clone, Copy, Debug, PartialEq, Eq)]
+#[derive(Clone, Copy)]
 pub struct Placed {
     pub place: u64,
     pub line: Line,

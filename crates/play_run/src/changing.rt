@@ -1,5 +1,5 @@
 //! A late source's link is changed: its ports are disabled, its tunnel is dropped and set up again with the file's format at both ends,
-//! and its ports are enabled (OpenMAX IL 1.1.2, `OMX_CommandPortDisable`, `OMX_CommandPortEnable`).
+//! and its ports are enabled (OpenMAX IL 1.1.2, `OMX_CommandPortDisable`, `OMX_CommandPortEnable`). None of these calls is refused, so what they answer isn't asked.
 
 ghost use Rattle.std.specs.Prelude.{◌≡◌, ◌+◌, ◌<◌, ◌≤◌, ℕ, Ok, length};
 ghost use Rattle.il_machine.specs.Acts as acts;

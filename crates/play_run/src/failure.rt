@@ -4,7 +4,7 @@ use omx_types::PartFault;
 use play_course::RunFault;
 
 /// A step that failed.
-#[derive(Clone, Copy, Debug, PartialEq, Eq)]
+#[derive(Clone, Copy)]
 pub struct Failure {
     /// The place of the part's component in the script, from 0.
     pub component: u32,
@@ -12,7 +12,7 @@ pub struct Failure {
 }
 
 /// The first fault of a run ends it.
-#[derive(Clone, Copy, Debug, PartialEq, Eq)]
+#[derive(Clone, Copy)]
 pub enum Stop {
     Failed(Failure),
     /// The log has no room for an act.

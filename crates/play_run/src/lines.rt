@@ -34,6 +34,7 @@ pub(crate) fn port_at(plan: &Plan, place: u32, index: u32) -> PortName
 pub(crate) fn log_act(log: &mut Log, slot: Option<usize>, said: &ActText)
     ensures { IsTold log.old said.now log.new }
 {
+    // A line that has no memory leaves the log broken, as it says itself.
     let _ = log.entry(0, slot, said);
 }
 

@@ -14,7 +14,7 @@ use std::alloc::Global;
 use stream_plan::Plan;
 
 /// Plays on the thread that calls it.
-#[derive(Clone, Copy, Debug, PartialEq, Eq)]
+#[derive(Clone, Copy)]
 pub struct OneThread;
 
 /// The text of the log of a whole play.

@@ -60,6 +60,7 @@ impl<S: Source, K: Sink> Playing<S, K> {
         law_of_component_streams();
         for place in 0..self.count() {
             let h = self.handle(place);
+            // None refuses it.
             let _ = self.graph.send_command(h, Command::StateSet(state));
             log_act(
                 &mut self.log,

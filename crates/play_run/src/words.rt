@@ -9,6 +9,7 @@ pub(crate) fn law_of_words(words: &[u64])
     let [first, rest @ ..] = words else {
         return;
     };
+    // The proof learns from it the number's range.
     let _first = *first;
     law_of_words(rest);
 }

@@ -6,7 +6,7 @@ ghost use Rattle.play_worker.specs.Failing.{worse, first_of, is_fault_first};
 use omx_types::{Handle, PartFault};
 
 /// A step that failed.
-#[derive(Clone, Copy, Debug, PartialEq, Eq)]
+#[derive(Clone, Copy)]
 pub struct Failure {
     /// The component whose step it was.
     pub component: Handle,

@@ -17,7 +17,7 @@ pub trait Gate {
 }
 
 /// A gate that does nothing, and tells no counts.
-#[derive(Clone, Copy, Debug, Drop)]
+#[derive(Clone, Copy, Drop)]
 pub struct NoGate;
 
 impl Gate for NoGate {

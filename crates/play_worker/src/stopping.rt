@@ -3,7 +3,7 @@
 use work_signs::Signs;
 
 /// A thread wanted memory. Only the sign gives it, so that no one gives a play up who didn't see that.
-#[derive(Clone, Copy, Debug)]
+#[derive(Clone, Copy)]
 pub struct Stopped(());
 
 /// Whether the sign is raised.

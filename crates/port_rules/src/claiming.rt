@@ -21,7 +21,7 @@ use omx_types::{Format, Kind};
 use port_stock::Stock;
 
 /// Why a component gives no work.
-#[derive(Clone, Copy, Debug, PartialEq, Eq)]
+#[derive(Clone, Copy)]
 pub enum NoWork {
     Busy,
     NotRunning,

@@ -14,7 +14,7 @@ use std::marker::Model;
 type Rows = ArrayVec<Row, 32>;
 
 /// Whether units were granted.
-#[derive(Clone, Copy, Debug, PartialEq, Eq)]
+#[derive(Clone, Copy)]
 pub enum Ask {
     Granted,
     Short { have: u32, need: u32 },

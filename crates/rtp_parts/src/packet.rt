@@ -15,7 +15,7 @@ const FIXED_HEADER: usize = 12;
 const MOST_PAYLOAD: usize = 4096;
 
 /// What is read of a well-formed packet, and where its payload begins and ends.
-#[derive(Clone, Copy, Debug, PartialEq, Eq)]
+#[derive(Clone, Copy)]
 pub(crate) struct Fields {
     pub(crate) companding: Companding,
     pub(crate) source: u32,

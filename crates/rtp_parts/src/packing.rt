@@ -30,7 +30,7 @@ const SAMPLES: usize = 20_480;
 const RECORDS: usize = 22_272;
 
 /// What was packed.
-#[derive(Clone, Copy, Debug, PartialEq, Eq)]
+#[derive(Clone, Copy)]
 pub struct Packed {
     pub packets: u64,
     pub frames: u64,

@@ -19,7 +19,7 @@ use std::alloc::Global;
 const MOST_SILENCE: u32 = 80_000;
 
 /// The packets of one source that are coded by one companding.
-#[derive(Clone, Copy, Debug, PartialEq, Eq)]
+#[derive(Clone, Copy)]
 pub(crate) struct Stream {
     pub(crate) companding: Companding,
     pub(crate) source: u32,

@@ -37,7 +37,7 @@ const MOST_PACKET: usize = 65_535;
 const MAGIC: u64 = 8;
 
 /// What was unpacked: the frames and bytes of the WAV file, and how many packets there were of each kind.
-#[derive(Clone, Copy, Debug, PartialEq, Eq)]
+#[derive(Clone, Copy)]
 pub struct Unpacked {
     pub frames: u64,
     pub bytes: u64,

@@ -1,20 +1,19 @@
 -- The lines of a text lead on, one after the other.
-use Rattle.std.proofs.Common.{◌≡◌, IsTrue, inl, ℕ, ◌+◌, Bool, true, false, List, [], ◌∷◌, ◌++◌, codes, length, refl, sym, ◌∙◌, ap, subst, arith, append_assoc, length-append}
+use Rattle.std.proofs.Common.{◌≡◌, IsTrue, inl, ℕ, ◌+◌, Bool, true, false, List, [], ◌∷◌, ◌++◌, codes, length, refl, sym, ◌∙◌, subst, arith, append_assoc, length-append}
 use Rattle.std.specs.Str.{bytes_eq}
 use Rattle.omx_types.specs.declared.fault.AuditWhy.{AuditWhy}
 use Rattle.omx_types.specs.declared.fault.AuditWhy.TheVariants.{BadLine, NotEnded}
 use Rattle.omx_types.specs.declared.fault.PartFault.{PartFault}
-use Rattle.il_machine.specs.World.{World}
 use Rattle.compared_files.specs.Comparing.{ComparingValue}
 use Rattle.graph_acts.specs.Plain.{Sight}
-use Rattle.audit_forms.specs.Audited.{AtEnd, Audits, Case, Moment, No, Verdict}
+use Rattle.audit_forms.specs.Audited.{Audits, Case, Moment, No, Verdict}
 use Rattle.audit_forms.specs.Passing.{PassesLine, StopsAt}
 use Rattle.audit_forms.proofs.Passing.{passes_on, stops_there}
 use Rattle.audit_lines.specs.Lines.{pieces_of}
 use Rattle.run_audit.specs.declared.replay.Replay.{Replay}
 use Rattle.run_audit.specs.declared.walking.Walked.{Walked}
 use Rattle.run_audit.specs.declared.walking.Walked.TheVariants.{Ended, Failed, Stopped}
-use Rattle.run_audit.specs.Leading.{IsBroken, IsSinceMoment, StandsIn}
+use Rattle.run_audit.specs.Leading.{IsBroken}
 use Rattle.run_audit.specs.Replaying.{IsReplay}
 use Rattle.run_audit.specs.Walking.{IsCome, IsLeft, IsWalked, PassAll}
 use Rattle.run_audit.proofs.Ways.{end_early, end_there, some_pieces}

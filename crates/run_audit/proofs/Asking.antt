@@ -18,7 +18,6 @@ use Rattle.note_queues.specs.declared.taken.Took.{Took}
 use Rattle.note_queues.specs.declared.taken.Took.TheVariants as tooks
 use Rattle.note_queues.specs.Queues.{taken_of}
 use Rattle.script_lang.specs.declared.play_line.PartLine.{PartLine}
-use Rattle.play_log.specs.Lines.{LogLine}
 use Rattle.play_log.specs.Saying.{Of, SaysAct}
 use Rattle.play_log.specs.Scenes.{IsPlayer, Scene}
 use Rattle.play_log.proofs.Players.{one_player}
@@ -30,12 +29,11 @@ use Rattle.il_graph.specs.Stood.{tookly}
 use Rattle.compared_files.specs.Comparing.{ComparingValue}
 use Rattle.graph_acts.specs.declared.act.Act.{Act}
 use Rattle.graph_acts.specs.declared.act.Reply.{Reply}
-use Rattle.graph_acts.specs.declared.act.Reply.TheVariants as replies
 use Rattle.graph_acts.specs.declared.served.Served.{Served}
 use Rattle.graph_acts.specs.Holding.{IsGone, given_out, header_in, took_header}
 use Rattle.graph_acts.specs.Plain.{Sight, Unsaid, plain_act, plain_reply}
 use Rattle.audit_acts.specs.Asking.{IsSaid, IsUnknown, scene_in}
-use Rattle.audit_forms.specs.Audited.{Answers, Case, IsThere, Moment}
+use Rattle.audit_forms.specs.Audited.{Case, IsThere}
 use Rattle.run_audit.specs.Answering.{IsAnswered, IsReplyOf, IsUnanswered}
 use Rattle.run_audit.specs.declared.replay.Passed.TheVariants.{On, Stop}
 use Rattle.run_audit.specs.declared.replay.Replay.{Replay}

@@ -1,10 +1,8 @@
 -- A line passes each test or stops at one, by what comes of its act.
-use Rattle.std.proofs.Common.{◌≡◌, ◌≤◌, inl, inr, ℕ, true, false, List, length, refl, sym, ◌∙◌, ap, subst, Bool}
+use Rattle.std.proofs.Common.{◌≡◌, ◌≤◌, inl, inr, ℕ, true, List, length, refl, sym, ◌∙◌, ap, subst, Bool}
 use Rattle.std.specs.Prelude.{Vec}
 use Rattle.std.specs.declared.alloc.Global.{Global}
-use Rattle.omx_types.specs.declared.fault.AuditWhy.{AuditWhy}
 use Rattle.omx_types.specs.declared.fault.AuditWhy.TheVariants.{BadLine, OtherAct}
-use Rattle.omx_types.specs.declared.fault.PartFault.{PartFault}
 use Rattle.il_machine.specs.declared.answer.Progress.{Progress}
 use Rattle.il_machine.specs.World.{World}
 use Rattle.act_text.specs.declared.act.TextAct.{TextAct}
@@ -18,13 +16,13 @@ use Rattle.audit_lines.specs.Lines.{IsOfPlay}
 use Rattle.audit_order.specs.Asked.{is_asked}
 use Rattle.audit_order.specs.Steps.{OrderValue}
 use Rattle.audit_forms.specs.Audited.{Case, ComesNext, IsNext, Moment, after}
-use Rattle.audit_forms.specs.Passing.{PassesLine, StopsAt}
+use Rattle.audit_forms.specs.Passing.{StopsAt}
 use Rattle.audit_forms.specs.Told.{told_more}
 use Rattle.run_audit.specs.declared.replay.Passed.{Passed}
 use Rattle.run_audit.specs.declared.replay.Passed.TheVariants.{Failed, On, Stop}
 use Rattle.run_audit.specs.declared.replay.Replay.{Replay}
 use Rattle.run_audit.specs.Files.{FilesGoOn}
-use Rattle.run_audit.specs.Leading.{IsBroken, IsLinePassed, IsPassed, IsReturn, IsSince, IsSinceMoment, Leads, ShowsIts, StandsIn, has_failed}
+use Rattle.run_audit.specs.Leading.{IsLinePassed, IsPassed, IsReturn, IsSince, IsSinceMoment, Leads, ShowsIts, StandsIn, has_failed}
 use Rattle.run_audit.specs.Replaying.{IsReplay}
 use Rattle.run_audit.proofs.Heard.{more_long}
 use Rattle.run_audit.proofs.Lined.{not_allowed, not_of_play, passes_here, stops_here}

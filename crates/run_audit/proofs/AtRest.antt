@@ -1,11 +1,10 @@
 -- What a replay looks at, at the end of its lines, is whether all rests.
-use Rattle.std.proofs.Common.{◌≡◌, ℕ, ◌<◌, Bool, true, false, List, All, length, slice_get, Option, Some, None, IsSomeAnd, refl, sym, ◌∙◌, ap, subst, arith}
+use Rattle.std.proofs.Common.{◌≡◌, ℕ, ◌<◌, Bool, false, List, length, slice_get, Option, Some, None, sym, ◌∙◌, ap, subst, arith}
 use Rattle.std.proofs.lemmas.Option.{slice_get_within}
 use Rattle.omx_types.specs.declared.handle.Handle.{Handle}
 use Rattle.omx_types.specs.declared.state.State.TheVariants.{Loaded}
 use Rattle.il_machine.specs.declared.answer.Progress.{Progress}
-use Rattle.il_machine.specs.Look.{Look}
-use Rattle.il_machine.specs.World.{Component, World, component_numbered}
+use Rattle.il_machine.specs.World.{Component, component_numbered}
 use Rattle.machine_laws.proofs.Every.{at_place, from_places}
 use Rattle.play_build_laws.specs.Stages.{IsStage, Joining}
 use Rattle.play_forms.specs.Plans.{PlanValue}

@@ -27,6 +27,7 @@ use Rattle.run_audit.specs.Faults.{AreGivenToEnd}
 use Rattle.run_audit.specs.Opening.{play_sight}
 use Rattle.run_audit.specs.Replayed.{AreGiven, FilesComeBack, IsVerdictBy, OnFailure, OnVerdict}
 use Rattle.run_audit.specs.Seeing.{compared}
+use Rattle.play_course.proofs.Logged.{parts_so}
 use Rattle.run_audit.proofs.Judged as judged
 use Rattle.run_audit.proofs.Outcome as outcome
 use Rattle.run_audit.proofs.Outcome.{ComesTo}
@@ -82,7 +83,7 @@ module _ {S : Type 0} (reads : SourceGhosts S) (script : Script) (log : List ℕ
 
       answer_is : answer ≡ outcome_of plan.parts after replayed
       answer_is =
-          told ∙ (ap (λ (ps : List PartLine). outcome_of ps seen replayed) (parts_are ∙ sym ((A.fitted).parts ∙ outcome.parts_so script A.planned A.is_plan))
+          told ∙ (ap (λ (ps : List PartLine). outcome_of ps seen replayed) (parts_are ∙ sym ((A.fitted).parts ∙ parts_so script A.planned A.is_plan))
           ∙ ap (λ (fs : List (Option (PartFile S (ComparingValue S)))). outcome_of plan.parts fs replayed) (as_closed ∙ written))
 
       pub known : IsKnown script log old late new answer

@@ -1,46 +1,39 @@
 -- A replay that was opened stands where the play of its plan begins.
-use Rattle.std.proofs.Common.{◌≡◌, ◌≢◌, ℕ, zero, suc, ◌+◌, ◌<◌, ◌≤◌, Bool, true, false, List, [], ◌∷◌, length, map, slice_get, take, Option, Some, None, IsSomeAnd, MatchOption, IsTrue, IsFalse, find, refl, sym, ◌∙◌, ap, subst, arith}
+use Rattle.std.proofs.Common.{◌≡◌, ℕ, ◌+◌, ◌<◌, Bool, true, false, List, [], ◌∷◌, length, slice_get, take, Option, Some, None, IsSomeAnd, MatchOption, IsTrue, refl, sym, ◌∙◌, ap, subst, arith}
 use Rattle.std.specs.List.{slice_index_or}
 use Rattle.std.specs.Option.{option_and_then}
 use Rattle.std.proofs.lemmas.List.{length-map}
 use Rattle.std.proofs.lemmas.Option.{slice_get_within}
 use Rattle.omx_types.specs.declared.handle.Handle.{Handle}
-use Rattle.outside_io.specs.Files.{Outside}
 use Rattle.il_machine.specs.declared.answer.Progress.{Progress}
-use Rattle.il_machine.specs.declared.header.Home.TheVariants as homes
 use Rattle.il_machine.specs.Files.{Offered}
 use Rattle.il_machine.specs.Headers.{find_header}
-use Rattle.il_machine.specs.Look.{Look, look}
+use Rattle.il_machine.specs.Look.{look}
 use Rattle.il_machine.specs.Whole.{Stands}
-use Rattle.il_machine.specs.World.{Component, HeaderRecord, Stream, World, is_stream_of, number_of, place_of, stream_of}
-use Rattle.history_laws.specs.Works.{has_work_out}
+use Rattle.il_machine.specs.World.{Component, Stream, World, number_of, place_of, stream_of}
 use Rattle.script_lang.specs.declared.play_line.PartForm.{PartForm}
 use Rattle.script_lang.specs.declared.play_line.PartForm.TheVariants as forms
 use Rattle.script_lang.specs.declared.play_line.PartLine.{PartLine}
 use Rattle.audio_parts.specs.declared.part_file.PartFile.{PartFile}
-use Rattle.audio_parts.specs.Shown.{ShownPart}
 use Rattle.play_build_laws.specs.Assembly.{Assembly}
 use Rattle.play_build_laws.specs.Stages.{IsStage, Joining, file_by, stream_by}
 use Rattle.play_build_laws.proofs.Places.{stream_found}
 use Rattle.play_forms.specs.Plans.{PlanValue}
 use Rattle.play_forms.specs.Parts.{kind_of, source_number}
-use Rattle.play_plan_laws.specs.Assemblies.{IsReady, PlayFiles, assembly_of, file_of as offered_file}
-use Rattle.play_log.specs.Scenes.{HaveOwnNames, Scene, scene_of}
+use Rattle.play_plan_laws.specs.Assemblies.{PlayFiles, assembly_of, file_of as offered_file}
 use Rattle.play_log.proofs.Players.{some_same}
-use Rattle.play_result_laws.specs.Files.{IsWriter, written_by}
-use Rattle.play_result_laws.specs.Worlds.{IsOpening}
+use Rattle.play_result_laws.specs.Files.{written_by}
 use Rattle.play_result_laws.proofs.OneLog.{opening_tells}
 use Rattle.play_history_laws.proofs.PlanOpening.{plan_fresh}
 use Rattle.graph_core.specs.Clients.{IsOut}
-use Rattle.il_flow.specs.Works.{WorkOf}
-use Rattle.il_graph.specs.Shown.{Shown, file_of, kept}
+use Rattle.il_graph.specs.Shown.{file_of, kept}
 use Rattle.il_graph.specs.Shown as graphs
 use Rattle.compared_files.specs.Comparing.{ComparingValue}
 use Rattle.graph_acts.specs.Holding.{IsGone}
 use Rattle.graph_acts.specs.Plain.{Sight}
 use Rattle.play_graph.specs.Ending.{AreFilesOf}
 use Rattle.audit_acts.specs.Asking.{scene_in}
-use Rattle.audit_forms.specs.Audited.{Case, Moment}
+use Rattle.audit_forms.specs.Audited.{Case}
 use Rattle.audit_forms.specs.Told.{HaveNumbers, nothing_told}
 use Rattle.audit_forms.specs.Whole.{start_at}
 use Rattle.audit_laws.proofs.Walking.{numbers}
@@ -48,7 +41,7 @@ use Rattle.run_audit.specs.declared.replay.Replay.{Replay}
 use Rattle.run_audit.specs.Clientless.{HasNoClients}
 use Rattle.run_audit.specs.Opening.{IsUnused, OpensWith}
 use Rattle.run_audit.specs.Replayed.{AreGiven, case_from}
-use Rattle.run_audit.specs.Replaying.{AreCompared, AreFronts, HoldsObjects, HoldsWorks, IsReplay, IsStanding}
+use Rattle.run_audit.specs.Replaying.{AreCompared, AreFronts, HoldsObjects, HoldsWorks, IsReplay}
 
 pub never_out : (w : World) (h : Handle) → ((i : ℕ) (a : Component) → slice_get w.components i ≡ Some a → a.client_out ≡ false) → IsOut h (look w) → ⊥
 never_out w h each O = by_place (place_of h w.components) O

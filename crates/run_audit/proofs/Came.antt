@@ -1,33 +1,29 @@
 -- What a replay comes to at its end, and what comes back of its files.
-use Rattle.std.proofs.Common.{◌≡◌, ◌≢◌, ◌⊎◌, inl, inr, ℕ, ◌-◌, ◌<◌, Bool, true, false, List, [], All, length, slice_get, take, Option, Some, None, IsTrue, MatchOption, refl, sym, ◌∙◌, ap, subst, arith}
-use Rattle.std.specs.Option.{option_and_then}
+use Rattle.std.proofs.Common.{◌≡◌, inr, ℕ, ◌<◌, true, false, List, [], length, slice_get, take, Option, Some, None, MatchOption, refl, sym, ◌∙◌, ap, subst, arith}
 use Rattle.std.specs.Io.KnownBytes.{append_known}
 use Rattle.std.proofs.lemmas.Option.{slice_get_within}
 use Rattle.omx_types.specs.declared.fault.AuditWhy.TheVariants.{NotEnded}
 use Rattle.omx_types.specs.declared.fault.PartFault.{PartFault}
 use Rattle.il_machine.specs.declared.answer.Progress.{Progress}
-use Rattle.il_machine.specs.Whole.{Always}
-use Rattle.il_machine.specs.World.{Component, Stream, World, component_numbered, stream_of}
+use Rattle.il_machine.specs.World.{Component, Stream, component_numbered, stream_of}
 use Rattle.audio_parts.specs.Objects.{FileShows, OnBoth, SinkShows, SourceShows}
 use Rattle.audio_parts.specs.ObjectLaws.{object_further, shows_earlier, shows_later}
 use Rattle.audio_parts.specs.declared.part_file.PartFile.{PartFile}
 use Rattle.audio_parts.specs.declared.part_file.PartFile.TheVariants as files
 use Rattle.play_forms.specs.Plans.{PlanValue}
 use Rattle.play_log.proofs.Players.{some_same}
-use Rattle.il_graph.specs.Shown.{Shown, TellWritten, file_of, kept}
+use Rattle.il_graph.specs.Shown.{TellWritten, file_of}
 use Rattle.play_graph.specs.Ending.{AreFilesOf}
 use Rattle.compared_files.specs.Comparing.{ComparingValue, given_by, told_by}
 use Rattle.graph_acts.specs.Plain.{Sight}
-use Rattle.graph_acts.specs.Sinks.{written_to}
-use Rattle.audit_forms.specs.Audited.{AtEnd, Case, IsEnd, Moment, No, Verdict, Yes}
+use Rattle.audit_forms.specs.Audited.{AtEnd, Case, IsEnd, Moment, No}
 use Rattle.outside_io.specs.Moves.{WhereTold}
 use Rattle.run_audit.specs.declared.replay.Replay.{Replay}
-use Rattle.run_audit.specs.Ending.{AreWhole, HasCome, HasUnlike, IsAtRest, IsComparison, IsUngiven}
+use Rattle.run_audit.specs.Ending.{AreWhole, HasUnlike, IsAtRest, IsUngiven}
 use Rattle.run_audit.specs.Files.{FileGoesOn, FilesGoOn, file_at, file_with}
 use Rattle.run_audit.specs.Leaving.{HasThen}
-use Rattle.run_audit.specs.Opening.{play_sight}
 use Rattle.run_audit.specs.Replayed.{FilesComeBack}
-use Rattle.run_audit.specs.Replaying.{AreCompared, AreFronts, IsComparedWith, IsReplay}
+use Rattle.run_audit.specs.Replaying.{AreCompared, IsComparedWith, IsReplay}
 use Rattle.run_audit.proofs.Files.{goes_same}
 
 -- ---- files

@@ -1,10 +1,8 @@
 -- Why an audit broke off shows outside.
-use Rattle.std.proofs.Common.{◌≡◌, ◌⊎◌, inl, inr, ℕ, zero, suc, ◌+◌, ◌<◌, ◌≤◌, ◌^◌, max, min, true, List, [], ◌∷◌, ◌++◌, length, slice_get, Option, Some, None, option_map, Ok, IsTrue, refl, sym, ◌∙◌, ap, subst, arith}
+use Rattle.std.proofs.Common.{◌≡◌, inl, inr, ℕ, zero, suc, ◌<◌, ◌≤◌, ◌^◌, true, List, [], ◌∷◌, ◌++◌, length, slice_get, Option, Some, None, option_map, Ok, IsTrue, refl, sym, ◌∙◌, ap, subst, arith}
 use Rattle.std.specs.List.{slice_index_or, sum_by}
 use Rattle.std.proofs.lemmas.Bool.{cases_lt}
 use Rattle.std.proofs.lemmas.Option.{slice_get_within}
-use Rattle.omx_types.specs.declared.fault.Fault.{Fault}
-use Rattle.omx_types.specs.declared.fault.Fault.TheVariants as Faults
 use Rattle.omx_types.specs.declared.fault.PartFault.{PartFault}
 use Rattle.omx_types.specs.declared.fault.PartFault.TheVariants as parts
 use Rattle.omx_types.specs.declared.fault.Which.TheVariants.{Line}
@@ -13,7 +11,6 @@ use Rattle.outside_io.specs.declared.source.Source.{Ghosts as SourceGhosts}
 use Rattle.outside_io.specs.Files.{IsFailedRead, Outside, with_names}
 use Rattle.outside_io.specs.Moves.{WhereTold}
 use Rattle.outside_io.specs.Stops.{GaveNothing}
-use Rattle.outside_io.specs.Whole.{IsShort}
 use Rattle.wav_form.specs.declared.heads.WavHead.{WavHead}
 use Rattle.wav_form.proofs.Read.{same_answer}
 use Rattle.audio_parts.specs.declared.part_file.PartFile.{PartFile}
@@ -29,7 +26,7 @@ use Rattle.play_result_laws.specs.Files.{read_by, written_by}
 use Rattle.play_files.specs.Asked.{read_names, written_names}
 use Rattle.play_files.specs.Closing.{AreClosed, IsOfFailed, failed_reads}
 use Rattle.play_files.specs.Opening.{HasHead, IsReadBy, IsSourceOf}
-use Rattle.play_files.specs.Seen.{FileSeen, Reads, SourceSeen, file_seen, files_seen, source_seen}
+use Rattle.play_files.specs.Seen.{Reads, SourceSeen, file_seen, files_seen, source_seen}
 use Rattle.play_files.proofs.Asking.{name_among}
 use Rattle.play_files.proofs.Stopped.{unseen_at}
 use Rattle.play_course.specs.Settling.{line_in}
@@ -40,7 +37,7 @@ use Rattle.compared_files.specs.Comparing.{ComparingValue, HasMet, known_by}
 use Rattle.compared_files.proofs.Known.{known_bytes, known_ends, known_names}
 use Rattle.audit_files.specs.Compared.{AreCompared, IsComparedBy, compared, read_seen}
 use Rattle.audit_files.proofs.Closed.{all_calm}
-use Rattle.run_audit.specs.Auditing.{HasMetAt, IsShortFile, IsStepFault, fault_of_comparison, fault_of_met, fault_of_step}
+use Rattle.run_audit.specs.Auditing.{HasMetAt, IsShortFile, IsStepFault, fault_of_met, fault_of_step}
 use Rattle.run_audit.specs.Files.{FileGoesOn}
 use Rattle.run_audit.specs.Leaving.{HasThen}
 use Rattle.run_audit.specs.Opening.{play_sight}

@@ -1,5 +1,5 @@
 -- Lines pass each test or stop at one, so no text is without a verdict.
-use Rattle.std.proofs.Common.{◌≡◌, inl, inr, ℕ, ◌+◌, ◌-◌, Bool, true, false, List, [], ◌∷◌, codes, refl}
+use Rattle.std.proofs.Common.{inl, inr, ℕ, ◌+◌, ◌-◌, Bool, true, false, List, [], ◌∷◌, codes, refl}
 use Rattle.std.specs.Str.{bytes_eq}
 use Rattle.omx_types.specs.declared.fault.AuditWhy.TheVariants.{BadLine, OtherAct, NotOut, OtherReply, OtherFile, NotEnded}
 use Rattle.il_machine.specs.World.{World}

@@ -1,10 +1,9 @@
 -- Where no read failed, an audit tells the fault that the files ask for, or memory was wanting.
-use Rattle.std.proofs.Common.{◌≡◌, ◌≢◌, ◌⊎◌, inl, inr, ℕ, ◌<◌, ◌≤◌, List, length, slice_get, Option, Some, None, Result, Ok, Err, IfErr, IfOk, IsSome, IsTrue, ap, sym, subst, refl, ◌∙◌, arith}
+use Rattle.std.proofs.Common.{◌≡◌, ◌≢◌, ◌⊎◌, inl, inr, ℕ, ◌<◌, ◌≤◌, List, length, slice_get, Option, Some, Result, Ok, Err, IfErr, IfOk, IsSome, IsTrue, ap, sym, subst, refl, ◌∙◌, arith}
 use Rattle.std.proofs.lemmas.Bool.{cases_lt}
 use Rattle.std.proofs.lemmas.Option.{slice_get_within}
 use Rattle.omx_types.specs.declared.fault.Fault.{Fault}
 use Rattle.omx_types.specs.declared.fault.Fault.TheVariants as Faults
-use Rattle.omx_types.specs.declared.fault.Which.TheVariants.{Line, Log}
 use Rattle.outside_io.specs.Files.{Outside}
 use Rattle.wav_form.specs.declared.heads.WavHead.{WavHead}
 use Rattle.script_lang.specs.declared.play_line.PartLine.{PartLine}
@@ -16,25 +15,25 @@ use Rattle.play_forms.specs.declared.plan_fault.PlanFault.TheVariants as Plans
 use Rattle.play_forms.specs.Joints.{AllJoin, AllLinked, headers_of, joints_of}
 use Rattle.play_forms.specs.Parts.{units_needed}
 use Rattle.play_forms.specs.Placing.{IsOrder}
-use Rattle.play_forms.specs.Plans.{IsFaultOfScript, IsFit, IsFitFault, IsFitted, IsPlanOfScript, IsSameFault, IsValid, PlanValue}
+use Rattle.play_forms.specs.Plans.{IsFaultOfScript, IsFit, IsFitted, IsPlanOfScript, IsSameFault, IsValid, PlanValue}
 use Rattle.play_forms.proofs.OneFault.{one_fault, planned_faultless}
 use Rattle.play_forms.proofs.OneMisfit.{fit_faultless, one_misfit}
 use Rattle.play_plan_laws.specs.Assemblies.{PlayFiles}
-use Rattle.play_result_laws.specs.Files.{IsReader, IsWriter, read_by, written_by}
+use Rattle.play_result_laws.specs.Files.{IsReader, IsWriter, read_by}
 use Rattle.play_forms.specs.Faults.{fault_of_plan}
 use Rattle.play_files.specs.Left.{HaveHeads, IsUnfit, IsUnplanned, IsUnread}
 use Rattle.play_files.specs.Opening.{IsSourceFault}
 use Rattle.play_files.proofs.FittedPlans.{fits_so, misfits_so, valid_of}
 use Rattle.play_course.specs.Outcomes.{WasOpened}
 use Rattle.play_course.specs.Settling.{parts_of}
-use Rattle.audit_files.specs.Left.{IsKnownFault, IsUncompared, IsUnmatched}
+use Rattle.audit_files.specs.Left.{IsKnownFault, IsUnmatched}
 use Rattle.audit_forms.specs.Audited.{No, Verdict, Yes}
 use Rattle.run_audit.specs.declared.auditing.AuditFault.{AuditFault}
 use Rattle.run_audit.specs.declared.auditing.AuditFault.TheVariants as audits
 use Rattle.run_audit.specs.Auditing.{AreFound, IsJudged, IsNotRun, IsUnaudited}
-use Rattle.run_audit.specs.Faults.{AreThere, Asks, AsksByFormats, AsksByLog, AsksByPlan, AsksBySink, AsksBySource, GiveHeads, IsFitBy, TellsOrMemory}
+use Rattle.run_audit.specs.Faults.{Asks, AsksByFormats, AsksByLog, AsksByPlan, AsksBySink, AsksBySource, GiveHeads, IsFitBy, TellsOrMemory}
 use Rattle.run_audit.proofs.FaultOfFile.{IsCalm, IsOr, bad_headless, head_given, known_absent, known_given, log_bad, log_unread, none_there, source_bad}
-use Rattle.run_audit.proofs.Outcome.{parts_so}
+use Rattle.play_course.proofs.Logged.{parts_so}
 
 -- ---- plans
 

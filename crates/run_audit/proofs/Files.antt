@@ -1,7 +1,6 @@
 -- The files of a replay stay where works go out and come back.
 use Rattle.std.proofs.Common.{◌≡◌, ◌≢◌, ◌≤◌, inl, inr, ℕ, Bool, true, false, List, Option, Some, None, max, nat_eq, slice_get, slice_set, refl, sym, ◌∙◌, ap, subst, arith, ne_eqb, eq-eqb}
 use Rattle.std.proofs.lemmas.Bool.{cases_eq}
-use Rattle.outside_io.specs.Moves.{WhereTold}
 use Rattle.machine_laws.proofs.Every.{set_else, set_there}
 use Rattle.audio_parts.specs.Objects.{BothOrNone, FileStays, SinkStays, SourceStays}
 use Rattle.audio_parts.specs.Shown.{ShownPart}

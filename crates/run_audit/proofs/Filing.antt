@@ -26,7 +26,6 @@ use Rattle.run_audit.specs.Answering.{IsReplyOf}
 use Rattle.run_audit.specs.Files.{file_with}
 use Rattle.run_audit.specs.Keeping.{claimed_in, with_thing, work_in}
 use Rattle.run_audit.specs.Replaying.{IsStanding}
-use Rattle.run_audit.proofs.Asked.{go}
 use Rattle.run_audit.proofs.Files.{file_out}
 use Rattle.run_audit.proofs.Lifting.{claim_free}
 use Rattle.run_audit.proofs.Quiet.{IsClaimPair, IsStill, IsTakePair}

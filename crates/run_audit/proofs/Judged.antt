@@ -1,5 +1,5 @@
 -- What was opened to be compared is what a replay asks for, and what that comes to is the log's verdict.
-use Rattle.std.proofs.Common.{◌≡◌, ◌≢◌, ℕ, ◌<◌, Bool, true, false, List, [], length, slice_get, Option, Some, None, MatchOption, IsSome, IsTrue, IsFalse, option_map, refl, sym, ◌∙◌, ap, subst, arith}
+use Rattle.std.proofs.Common.{◌≡◌, ℕ, Bool, true, false, List, [], slice_get, Option, Some, None, IsSome, IsTrue, IsFalse, option_map, refl, sym, ◌∙◌, ap, subst, arith}
 use Rattle.std.specs.List.{slice_index_or}
 use Rattle.std.specs.Option.{option_and_then}
 use Rattle.std.proofs.lemmas.Option.{slice_get_within}
@@ -14,21 +14,18 @@ use Rattle.script_lang.specs.declared.script.Script.{Script}
 use Rattle.il_graph.specs.Shown.{offered}
 use Rattle.play_forms.specs.Parts.{source_number}
 use Rattle.play_forms.specs.Plans.{PlanValue}
-use Rattle.play_plan_laws.specs.Assemblies.{PlayFiles}
 use Rattle.play_world_laws.proofs.Lists.{get_there}
 use Rattle.play_log.specs.Scenes.{HaveOwnNames}
 use Rattle.play_result_laws.specs.Files.{IsWriter, read_by, written_by}
 use Rattle.play_result_laws.proofs.OwnNames.{own_names}
 use Rattle.play_files.specs.Opening.{IsReadBy}
-use Rattle.play_files.specs.Seen.{file_seen, offer, source_seen}
+use Rattle.play_files.specs.Seen.{file_seen, offer}
 use Rattle.play_course.specs.Outcomes.{WasOpened}
-use Rattle.play_graph.specs.Making.{AreOffered}
 use Rattle.compared_files.specs.Comparing.{ComparingValue}
-use Rattle.graph_acts.specs.Sinks.{written_to}
 use Rattle.audit_files.specs.Compared.{AreCompared, IsComparedBy, compared}
 use Rattle.audit_files.proofs.Writing.{told_there}
 use Rattle.audit_forms.specs.Audited.{Verdict}
-use Rattle.audit_forms.specs.Whole.{IsAudited, file_by}
+use Rattle.audit_forms.specs.Whole.{file_by}
 use Rattle.run_audit.specs.Auditing.{AreFound, HasVerdict}
 use Rattle.run_audit.specs.Replayed.{AreGiven, IsVerdictBy}
 use Rattle.run_audit.specs.Replaying.{IsComparedWith}

@@ -1,16 +1,14 @@
 -- A replay that is left comes to where its graph can be stopped.
-use Rattle.std.proofs.Common.{◌≡◌, ℕ, ◌+◌, ◌<◌, ◌≤◌, Bool, true, false, List, length, slice_get, Option, Some, None, inl, inr, refl, sym, ◌∙◌, ap, subst, arith}
+use Rattle.std.proofs.Common.{◌≡◌, ℕ, ◌+◌, ◌<◌, ◌≤◌, Bool, true, false, List, length, slice_get, Option, Some, None, inl, inr, sym, ◌∙◌, ap, subst, arith}
 use Rattle.std.proofs.lemmas.Bool.{cases_lt}
-use Rattle.omx_types.specs.declared.handle.Handle.{Handle}
 use Rattle.il_machine.specs.declared.answer.Progress.{Progress}
 use Rattle.il_machine.specs.World.{World}
-use Rattle.act_text.specs.declared.act.TextAct.{TextAct}
 use Rattle.play_build_laws.specs.Dismantling.{AreLinks}
 use Rattle.play_forms.specs.Plans.{PlanValue}
 use Rattle.play_plan_laws.specs.Assemblies.{IsReady, PlayFiles, is_late_link}
 use Rattle.play_plan_laws.specs.Casting.{flow_of, joint_of}
 use Rattle.play_plan_laws.specs.Endings.{ends_of as plan_ends}
-use Rattle.play_plan_laws.proofs.Lawful.{IsLinkAt, link_is as link_there}
+use Rattle.play_plan_laws.proofs.Lawful.{link_is as link_there}
 use Rattle.play_graph.specs.Stops.{HasStopped}
 use Rattle.compared_files.specs.Comparing.{ComparingValue}
 use Rattle.graph_acts.specs.Plain.{Sight}
@@ -28,7 +26,7 @@ use Rattle.run_audit.specs.Replaying.{IsStanding}
 use Rattle.run_audit.specs.Settling.{IsSettled}
 use Rattle.run_audit.proofs.AtRest.{case_is, named, same_case, stage_of}
 use Rattle.run_audit.proofs.Stopping.{can_stop, few as few_links, links as all_links}
-use Rattle.run_audit.proofs.Tunnels.{IsRejoined, IsUpTo, rejoined}
+use Rattle.run_audit.proofs.Tunnels.{IsUpTo, rejoined}
 use Rattle.run_audit.proofs.Way.{IsOn, on_settled, on_since}
 
 -- the ends of a link of a plan that is ready

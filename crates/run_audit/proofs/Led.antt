@@ -22,12 +22,12 @@ use Rattle.graph_acts.specs.declared.served.Served.{Served}
 use Rattle.graph_acts.specs.Holding.{IsGone}
 use Rattle.graph_acts.specs.Plain.{Sight}
 use Rattle.audit_acts.specs.Asking.{IsUnknown, scene_in}
-use Rattle.audit_forms.specs.Audited.{Answers, Case, IsThere, Moment}
+use Rattle.audit_forms.specs.Audited.{Case, IsThere, Moment}
 use Rattle.run_audit.specs.Answering.{IsAnswered, IsReplyOf, IsUnanswered}
 use Rattle.run_audit.specs.declared.replay.Passed.TheVariants.{On, Stop}
 use Rattle.run_audit.specs.declared.replay.Replay.{Replay}
 use Rattle.graph_acts.specs.Objects.{files_in}
-use Rattle.run_audit.specs.Files.{FilesGoOn, file_at, file_with}
+use Rattle.run_audit.specs.Files.{FilesGoOn, file_with}
 use Rattle.run_audit.specs.Leading.{IsNowhere, IsReturn, IsSince, Leads, StandsIn}
 use Rattle.run_audit.proofs.Asked.{Lifts, passes_on, stands_on, stops_on}
 use Rattle.run_audit.proofs.Files.{files_same}

@@ -9,7 +9,7 @@ use Rattle.note_queues.specs.declared.taken.Took.TheVariants as tooks
 use Rattle.audio_parts.specs.Shown.{ShownPart}
 use Rattle.graph_core.specs.Clients.{IsOut}
 use Rattle.il_flow.specs.Works.{WorkOf}
-use Rattle.il_graph.specs.Shown.{Shown, kept}
+use Rattle.il_graph.specs.Shown.{Shown}
 use Rattle.il_graph.specs.Shown as graphs
 use Rattle.compared_files.specs.Comparing.{ComparingValue}
 use Rattle.graph_acts.specs.declared.act.Act.{Act}

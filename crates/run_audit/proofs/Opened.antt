@@ -1,5 +1,5 @@
 -- The lists with which a replay begins.
-use Rattle.std.proofs.Common.{◌≡◌, ℕ, zero, suc, List, [], ◌∷◌, length, map, replicate, slice_get, Option, Some, None, option_map, refl, sym, arith}
+use Rattle.std.proofs.Common.{◌≡◌, ℕ, suc, List, [], ◌∷◌, length, map, replicate, slice_get, Some, option_map, refl, sym, arith}
 use Rattle.omx_types.specs.declared.handle.Handle.{Handle}
 use Rattle.il_machine.specs.Components.{no_progress}
 use Rattle.il_machine.specs.World.{Component}

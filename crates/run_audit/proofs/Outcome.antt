@@ -1,5 +1,5 @@
 -- What an audit comes to.
-use Rattle.std.proofs.Common.{◌≡◌, ◌≢◌, inl, inr, ℕ, ◌+◌, ◌-◌, ◌<◌, ◌≤◌, ◌^◌, List, [], ◌∷◌, ◌++◌, length, slice_get, Option, Some, None, Result, Ok, Err, IfErr, IfOk, OnOk, IsSome, IsTrue, false, option_map, refl, sym, ◌∙◌, ap, subst, arith}
+use Rattle.std.proofs.Common.{◌≡◌, ◌≢◌, inl, inr, ℕ, ◌-◌, ◌<◌, ◌≤◌, ◌^◌, List, [], ◌∷◌, ◌++◌, length, slice_get, Option, Some, None, Result, Ok, Err, IfErr, IfOk, OnOk, IsSome, IsTrue, false, option_map, refl, sym, ◌∙◌, ap, subst, arith}
 use Rattle.std.specs.List.{sum_by}
 use Rattle.std.specs.Result.{is_ok}
 use Rattle.omx_types.specs.declared.fault.Fault.{Fault}
@@ -16,9 +16,7 @@ use Rattle.audio_parts.specs.declared.part_file.PartFile.{PartFile}
 use Rattle.audio_parts.specs.declared.part_file.PartFile.TheVariants as files
 use Rattle.script_lang.specs.PlayScripts.{IsPlayScript}
 use Rattle.script_lang.specs.declared.script.Script.{Script}
-use Rattle.script_lang.specs.declared.script.Script.TheVariants.{Play, Trace}
-use Rattle.play_forms.specs.Plans.{IsPlanOfScript, PlanValue}
-use Rattle.play_course.specs.Settling.{parts_of}
+use Rattle.play_forms.specs.Plans.{PlanValue}
 use Rattle.play_files.specs.Asked.{HasAskedFor, read_names, written_names}
 use Rattle.play_files.specs.Closing.{AreClosed, failed_reads}
 use Rattle.play_files.specs.Seen.{SinkSeen, Writes, files_seen}
@@ -43,10 +41,6 @@ use Rattle.run_audit.specs.Replayed.{AreGiven, FilesComeBack, IsVerdictBy, OnFai
 use Rattle.run_audit.specs.Seeing.{compared}
 use Rattle.run_audit.proofs.Causes as causes
 use Rattle.run_audit.proofs.Judged as judged
-
-pub parts_so : (script : Script) (planned : PlanValue) → IsPlanOfScript script planned → planned.parts ≡ parts_of script
-parts_so (Play units parts links) planned P = P.parts_of
-parts_so (Trace units lines) planned P = absurd P
 
 -- ---- nothing was opened
 

@@ -1,5 +1,5 @@
 -- What a sink's file tells, and what was written to it, as works come back.
-use Rattle.std.proofs.Common.{◌≡◌, ℕ, zero, suc, List, [], ◌∷◌, ◌++◌, length, take, Option, Some, None, refl, sym, ◌∙◌, ap, subst, append-nil}
+use Rattle.std.proofs.Common.{◌≡◌, ℕ, zero, suc, List, [], ◌∷◌, ◌++◌, length, take, Option, Some, refl, sym, ◌∙◌, ap, subst, append-nil}
 use Rattle.std.specs.Io.KnownBytes.{append_known}
 use Rattle.outside_io.specs.Moves.{WhereTold}
 use Rattle.compared_files.specs.Comparing.{ComparingValue, IsFrontless, given_by, told_by}

@@ -1,16 +1,14 @@
 -- A replay of which all is back, and whose tunnels are up, can be stopped.
-use Rattle.std.proofs.Common.{◌≡◌, inl, inr, ℕ, zero, suc, ◌<◌, ◌≤◌, Bool, true, false, List, [], ◌∷◌, length, map, slice_get, All, Option, Some, None, is_none, is_some, option_map, refl, sym, ◌∙◌, ap, subst, arith}
+use Rattle.std.proofs.Common.{◌≡◌, ℕ, zero, suc, ◌<◌, ◌≤◌, Bool, true, false, List, [], ◌∷◌, length, slice_get, All, Option, Some, None, is_none, is_some, refl, sym, ◌∙◌, ap, subst, arith}
 use Rattle.std.specs.Option.{option_and_then}
 use Rattle.std.proofs.lemmas.Option.{slice_get_within}
 use Rattle.omx_types.specs.declared.handle.Handle.{Handle}
 use Rattle.il_machine.specs.declared.answer.Progress.{Progress}
 use Rattle.il_machine.specs.Look.{Look}
 use Rattle.il_machine.specs.Sound.{Sound}
-use Rattle.il_machine.specs.Whole.{Stands}
 use Rattle.il_machine.specs.World.{Component, Work, World, component_numbered, is_at, number_of, place_of}
 use Rattle.il_machine.proofs.Places.{is_first_place, passes_at as standing_at}
 use Rattle.machine_laws.proofs.Every.{from_places}
-use Rattle.machine_laws.proofs.Finding.{either}
 use Rattle.history_laws.proofs.Named.{is_named, named_there}
 use Rattle.history_laws.proofs.Naming.{handle_is}
 use Rattle.il_component.specs.Entries.{Entry, component_of}
@@ -18,12 +16,12 @@ use Rattle.history_laws.specs.Works.{has_work_out}
 use Rattle.play_build_laws.specs.Dismantling.{AreLinks}
 use Rattle.play_build_laws.specs.Stages.{IsStage, Joining}
 use Rattle.play_forms.specs.Plans.{PlanValue}
-use Rattle.play_world_laws.specs.PlayWorlds.{IsPlayWorld, PlayCast}
+use Rattle.play_world_laws.specs.PlayWorlds.{PlayCast}
 use Rattle.play_world_laws.proofs.Lists.{get_there}
 use Rattle.play_turn_laws.proofs.Planned.{plan_links}
 use Rattle.play_plan_laws.specs.Assemblies.{IsReady, PlayFiles, assembly_of, is_late_link, play_cast_of}
 use Rattle.play_plan_laws.specs.Endings.{ends_of}
-use Rattle.play_log.specs.Scenes.{HaveOwnNames, Scene, scene_of}
+use Rattle.play_log.specs.Scenes.{HaveOwnNames, Scene}
 use Rattle.read_world_laws.specs.Inside.{inside}
 use Rattle.read_world_laws.specs.Mended.{mend}
 use Rattle.play_history_laws.specs.Askings.{IsPlanHistory}
@@ -34,7 +32,7 @@ use Rattle.play_graph.proofs.Reading.{read_stops}
 use Rattle.graph_core.specs.Entries.{Entries, client_named, components_of}
 use Rattle.graph_core.proofs.Replacing.{entry_place_is}
 use Rattle.graph_core.proofs.Clients.{client_there}
-use Rattle.il_graph.specs.Shown.{Shown, kept}
+use Rattle.il_graph.specs.Shown.{Shown}
 use Rattle.il_flow.specs.Works.{WorkOf}
 use Rattle.audio_parts.specs.Shown.{ShownPart}
 use Rattle.compared_files.specs.Comparing.{ComparingValue}
@@ -43,7 +41,7 @@ use Rattle.graph_acts.specs.Plain.{Sight}
 use Rattle.audit_order.specs.Steps.{OrderValue}
 use Rattle.audit_forms.specs.Audited.{Case}
 use Rattle.audit_laws.proofs.Walking.{numbers}
-use Rattle.run_audit.specs.Replaying.{HoldsObjects, HoldsWorks, IsStanding}
+use Rattle.run_audit.specs.Replaying.{IsStanding}
 use Rattle.run_audit.proofs.Tunnels.{IsUpTo, all_up}
 use Rattle.run_audit.proofs.Way.{IsOn, case, history}
 

@@ -21,7 +21,7 @@ use Rattle.run_audit.specs.Faults.{AreGivenToEnd}
 use Rattle.run_audit.specs.Files.{FileGoesOn}
 use Rattle.run_audit.specs.Opening.{play_sight}
 use Rattle.run_audit.specs.Replayed.{FilesComeBack}
-use Rattle.run_audit.proofs.Outcome.{parts_so}
+use Rattle.play_course.proofs.Logged.{parts_so}
 
 module _ {S : Type 0} (reads : SourceGhosts S) (script : Script) (old mid : Outside) (plan : PlanValue) (before after : List (Option (PartFile S (ComparingValue S)))) (A : AreCompared reads script old mid plan before)
     (back : FilesComeBack (play_sight reads) plan before after) where

@@ -1,13 +1,12 @@
 -- Once the acts of a change that are left were tried, each late source's link has its tunnel.
-use Rattle.std.proofs.Common.{◌≡◌, ◌⊎◌, inl, inr, ℕ, zero, suc, ◌+◌, ◌<◌, ◌≤◌, Bool, true, false, ◌||◌, nat_le, List, [], ◌∷◌, ◌++◌, length, slice_get, Option, Some, None, refl, sym, ◌∙◌, ap, subst, length-append, arith}
-use Rattle.std.proofs.lemmas.Bool.{cases_eq, cases_lt}
+use Rattle.std.proofs.Common.{◌≡◌, ◌⊎◌, inl, inr, ℕ, zero, suc, ◌+◌, ◌<◌, ◌≤◌, Bool, true, false, List, [], ◌∷◌, ◌++◌, length, slice_get, Option, Some, None, refl, sym, ◌∙◌, ap, subst, length-append, arith}
+use Rattle.std.proofs.lemmas.Bool.{cases_lt}
 use Rattle.std.proofs.lemmas.Grind.{common_steps}
 use Rattle.omx_types.specs.declared.handle.Handle.{Handle}
 use Rattle.il_machine.specs.declared.answer.Progress.{Progress}
 use Rattle.il_machine.specs.Acts.{Act, Reply}
 use Rattle.il_machine.specs.World.{World}
 use Rattle.machine_laws.proofs.Every.{push_last_there, push_there}
-use Rattle.machine_laws.proofs.Finding.{either}
 use Rattle.act_text.specs.declared.act.TextAct.{TextAct}
 use Rattle.act_text.specs.declared.act.TextAct.TheVariants as lines
 use Rattle.play_build_laws.specs.Stages.{IsStage, Joining}
@@ -26,12 +25,12 @@ use Rattle.play_graph.specs.Stops.{HaveTunnels}
 use Rattle.audit_order.specs.declared.ends.LinkEnds.{LinkEnds}
 use Rattle.audit_order.specs.declared.order.Change.{Change}
 use Rattle.audit_order.specs.Asked.{change_act, is_asked}
-use Rattle.audit_order.specs.Steps.{Admits, ChangesOn, OrderValue, is_begun, is_changing, is_sending}
+use Rattle.audit_order.specs.Steps.{Admits, OrderValue, is_begun, is_changing}
 use Rattle.audit_forms.specs.Audited.{Case, ComesNext}
 use Rattle.audit_laws.proofs.Likeness.{IsLike, IsLikeChange, IsLinkOf, IsWhole, left_some, not_sending}
 use Rattle.audit_laws.proofs.Links.{ends_of, giver, one_link}
 use Rattle.audit_laws.proofs.Told.{AreTold}
-use Rattle.run_audit.specs.Leading.{IsMade, IsReturn, IsSince}
+use Rattle.run_audit.specs.Leading.{IsReturn, IsSince}
 use Rattle.run_audit.specs.Leaving.{AreTried, IsTried, rejoining}
 use Rattle.run_audit.proofs.Way.{IsOn, admitted_there, asked_on, case, history, link_so}
 

@@ -1,5 +1,5 @@
 -- What comes of the act of a line that names a component, by what is known of the replay before it.
-use Rattle.std.proofs.Common.{◌≡◌, ◌<◌, inl, ℕ, Bool, List, Option, Some, None, IfSome, length, slice_get, slice_set, sym, ◌∙◌, ap, subst}
+use Rattle.std.proofs.Common.{◌≡◌, ◌<◌, ℕ, Bool, List, Option, Some, None, IfSome, length, slice_get, slice_set, sym, ◌∙◌, ap, subst}
 use Rattle.std.specs.Prelude.{Vec}
 use Rattle.std.specs.declared.alloc.Global.{Global}
 use Rattle.omx_types.specs.declared.fault.AuditWhy.TheVariants.{NotOut, OtherFile, OtherReply}
@@ -8,7 +8,6 @@ use Rattle.omx_types.specs.declared.handle.Handle.{Handle}
 use Rattle.il_machine.specs.Acts.{Act}
 use Rattle.il_machine.specs.Whole.{Stands}
 use Rattle.il_machine.specs.World.{World}
-use Rattle.act_text.specs.declared.act.TextAct.{TextAct}
 use Rattle.act_text.specs.declared.act.TextAct.TheVariants as lines
 use Rattle.act_text.specs.declared.reply.TextReply.TheVariants as texts
 use Rattle.act_text.specs.declared.text.ActText.{ActText}

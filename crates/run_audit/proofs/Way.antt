@@ -1,12 +1,9 @@
 -- The acts since the opening of a replay are a history of the plan's play, whichever line stops it, and also where all that is out goes back.
-use Rattle.std.proofs.Common.{◌≡◌, ◌⊎◌, inl, inr, ℕ, zero, suc, ◌+◌, ◌<◌, ◌≤◌, Bool, true, false, List, [], ◌∷◌, ◌++◌, length, map, slice_get, Option, Some, None, option_map, refl, sym, ◌∙◌, ap, subst, append-nil, append_assoc, arith}
+use Rattle.std.proofs.Common.{◌≡◌, inl, inr, ℕ, zero, suc, ◌+◌, ◌<◌, true, false, List, [], ◌∷◌, ◌++◌, length, slice_get, Option, Some, refl, sym, ◌∙◌, ap, subst, arith}
 use Rattle.std.proofs.lemmas.List.{length-map}
 use Rattle.std.proofs.lemmas.Option.{slice_get_within}
-use Rattle.omx_types.specs.declared.command.Command.TheVariants.{StateSet, PortDisable, PortEnable}
-use Rattle.omx_types.specs.declared.command.PortSel.{PortSel}
-use Rattle.omx_types.specs.declared.format.Format.{Format}
+use Rattle.omx_types.specs.declared.command.Command.TheVariants.{StateSet}
 use Rattle.omx_types.specs.declared.handle.Handle.{Handle}
-use Rattle.omx_types.specs.declared.param.Param.TheVariants as params
 use Rattle.omx_types.specs.declared.state.State.{State}
 use Rattle.part_forms.specs.Kinds.{is_late}
 use Rattle.il_machine.specs.declared.answer.Progress.{Progress}
@@ -16,7 +13,6 @@ use Rattle.il_machine.specs.Run.{Meets, Step}
 use Rattle.il_machine.specs.World.{Component, World}
 use Rattle.act_text.specs.declared.act.TextAct.{TextAct}
 use Rattle.act_text.specs.declared.act.TextAct.TheVariants as lines
-use Rattle.act_text.specs.declared.name.PortName.{PortName}
 use Rattle.act_text.specs.declared.text.ActText.{ActText}
 use Rattle.script_lang.specs.declared.play_line.PartLine.{PartLine}
 use Rattle.play_build_laws.specs.Stages.{IsStage, Joining}
@@ -26,10 +22,10 @@ use Rattle.play_world_laws.specs.PlayWorlds.{PlayCast}
 use Rattle.play_world_laws.proofs.Lists.{get_there}
 use Rattle.play_plan_laws.specs.Assemblies.{IsReady, PlayFiles, assembly_of, is_late_link, play_cast_of}
 use Rattle.play_plan_laws.proofs.Lawful.{IsLinkAt, link_is as link_there}
-use Rattle.play_log.specs.Entries.{Entry, step_of, steps_of}
+use Rattle.play_log.specs.Entries.{Entry, steps_of}
 use Rattle.play_log.specs.Lines.{LogLine}
-use Rattle.play_log.specs.Naming.{NameAll, Names}
-use Rattle.play_log.specs.Saying.{Of, SaysAct, key, port_at}
+use Rattle.play_log.specs.Naming.{NameAll}
+use Rattle.play_log.specs.Saying.{SaysAct}
 use Rattle.play_log.specs.Scenes.{HaveOwnNames, IsPlayer, Scene, scene_of}
 use Rattle.play_log.proofs.Players.{some_same}
 use Rattle.play_history_laws.specs.Order.{Cursor, nothing_asked}
@@ -40,13 +36,12 @@ use Rattle.audit_order.specs.declared.ends.LinkEnds.{LinkEnds}
 use Rattle.audit_order.specs.declared.order.Change.{Change}
 use Rattle.audit_order.specs.Asked.{change_act, is_asked, state_sent}
 use Rattle.audit_order.specs.Ends.{link_of}
-use Rattle.audit_order.specs.Steps.{Admits, BeginsChange, BeginsSend, ChangesOn, OrderValue, SendsOn, is_changing}
-use Rattle.audit_forms.specs.Audited.{Answers, Case, ComesNext, Moment, after}
-use Rattle.audit_forms.specs.Passing.{PassesLine}
+use Rattle.audit_order.specs.Steps.{Admits, OrderValue, is_changing}
+use Rattle.audit_forms.specs.Audited.{Case, ComesNext, Moment, after}
 use Rattle.audit_forms.specs.Told.{nothing_told, told_after, told_more}
 use Rattle.audit_forms.specs.Whole.{start_at}
 use Rattle.audit_forms.proofs.Telling.{all_told}
-use Rattle.audit_laws.specs.Admitted.{AdmitsFrom, AdmitsLines}
+use Rattle.audit_laws.specs.Admitted.{AdmitsFrom}
 use Rattle.audit_laws.proofs.Asking.{asked_so}
 use Rattle.audit_laws.proofs.Likeness.{IsLike, IsLikeChange, IsLinkOf, some_left}
 use Rattle.audit_laws.proofs.Links.{ends_of, giver, linked, source_link, taker}

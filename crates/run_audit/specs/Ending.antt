@@ -2,7 +2,6 @@
 use Rattle.std.specs.Prelude.{◌≡◌, ℕ, All, List, [], slice_get, Option, Some, None}
 use Rattle.il_machine.specs.World.{World}
 use Rattle.outside_io.specs.Moves.{WhereTold}
-use Rattle.play_forms.specs.Plans.{PlanValue}
 use Rattle.play_plan_laws.specs.Assemblies.{IsReady, PlayFiles}
 use Rattle.play_log.specs.Scenes.{HaveOwnNames, scene_of}
 use Rattle.play_result_laws.specs.Worlds.{IsOpening}

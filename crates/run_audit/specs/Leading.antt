@@ -1,7 +1,6 @@
 -- What comes of the act of a line, and of a line.
 use Rattle.std.specs.Prelude.{◌≡◌, ◌⊎◌, ℕ, Bool, true, false, IsTrue, List}
 use Rattle.omx_types.specs.declared.fault.AuditWhy.TheVariants.{NotOut, OtherReply, OtherFile}
-use Rattle.omx_types.specs.declared.fault.PartFault.{PartFault}
 use Rattle.omx_types.specs.declared.handle.Handle.{Handle}
 use Rattle.il_machine.specs.Acts.{Act, Reply}
 use Rattle.il_machine.specs.Run.{Meets, Step}

@@ -1,5 +1,5 @@
 -- A replay that is ready for the first line.
-use Rattle.std.specs.Prelude.{◌≡◌, ℕ, ◌<◌, false, List, length, slice_get, Some, None}
+use Rattle.std.specs.Prelude.{◌≡◌, ℕ, ◌<◌, false, length, slice_get, Some, None}
 use Rattle.il_machine.specs.declared.answer.Progress.{Progress}
 use Rattle.il_machine.specs.Whole.{Stands}
 use Rattle.il_machine.specs.World.{World}
@@ -11,7 +11,6 @@ use Rattle.outside_io.specs.declared.source.Source.{Ghosts as SourceGhosts}
 use Rattle.compared_files.specs.Comparing.{ComparingValue}
 use Rattle.graph_acts.specs.Plain.{Sight}
 use Rattle.play_graph.specs.Graphs.{kept_of}
-use Rattle.graph_acts.specs.Holding.{IsGone}
 use Rattle.audit_order.specs.Steps.{nothing_asked}
 use Rattle.audit_forms.specs.Told.{nothing_told}
 use Rattle.run_audit.specs.declared.replay.Replay.{Replay}

@@ -1,6 +1,5 @@
 -- What the replay of a log's text comes to.
 use Rattle.std.specs.Prelude.{◌≡◌, ℕ, ◌<◌, Bool, List, [], length, slice_get, Option, Some, None, true, IsFalse, IsTrue}
-use Rattle.omx_types.specs.declared.fault.PartFault.{PartFault}
 use Rattle.outside_io.specs.Files.{Outside}
 use Rattle.il_machine.specs.Files.{Offered}
 use Rattle.il_machine.specs.World.{World}

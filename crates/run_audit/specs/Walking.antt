@@ -1,7 +1,6 @@
 -- Where the lines of a text lead.
 use Rattle.std.specs.Prelude.{◌≡◌, ℕ, ◌+◌, Bool, true, false, IsTrue, List, [], ◌∷◌, ◌++◌, codes, length}
 use Rattle.std.specs.Str.{bytes_eq}
-use Rattle.omx_types.specs.declared.fault.PartFault.{PartFault}
 use Rattle.il_machine.specs.World.{World}
 use Rattle.compared_files.specs.Comparing.{ComparingValue}
 use Rattle.graph_acts.specs.Plain.{Sight}

@@ -32,6 +32,16 @@ pub enum AuditFault {
     Fault(Fault),
 }
 
+impl From<Fault> for AuditFault {
+    ghost use Rattle.run_audit.specs.declared.auditing.AuditFault.TheVariants as audits;
+
+    ghost from_gives = { λ fault audited. audited ≡ audits.Fault fault };
+
+    fn from(fault: Fault) -> AuditFault {
+        AuditFault::Fault(fault)
+    }
+}
+
 /// The number of the script line of the component at the place.
 fn line_at(parts: &[PartLine], place: usize) -> u32
     ensures { result ≡ line_in (slice_get parts.now place) }
@@ -144,10 +154,8 @@ pub fn audit<M: Media>(
 {
     law_of_audits();
     law_of_verdicts();
-    let Opened { plan, mut files } = match open_compared(alloc, media, script) {
-        Ok(opened) => opened,
-        Err(fault) => return Err(AuditFault::Fault(fault)),
-    };
+    let opened = open_compared(alloc, media, script)?;
+    let Opened { plan, mut files } = opened;
     let text = match read_whole(alloc, media, log, u64::MAX) {
         Ok(text) => text,
         Err(unread) => {

@@ -21,7 +21,7 @@ pub struct Replay<S: Source, C: Client> {
 }
 
 /// What comes of a line.
-#[derive(Clone, Copy, Debug, PartialEq, Eq)]
+#[derive(Clone, Copy)]
 pub enum Passed {
     /// It passes each test.
     On,

@@ -21,7 +21,7 @@ use std::alloc::Global;
 use stream_plan::Plan;
 
 /// What a replay came to.
-#[derive(Clone, Copy, Debug, PartialEq, Eq)]
+#[derive(Clone, Copy)]
 pub enum Replayed {
     /// So many lines passed, and `end`.
     Yes(u64),

@@ -23,7 +23,7 @@ use omx_types::{Handle, PartFault};
 use outside_io::{Sink, Source};
 
 /// How a work came back whose return a line says.
-#[derive(Clone, Copy, Debug, PartialEq, Eq)]
+#[derive(Clone, Copy)]
 pub enum Back {
     /// As the line says.
     Same,

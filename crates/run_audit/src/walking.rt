@@ -15,7 +15,7 @@ use omx_types::{AuditWhy, PartFault};
 use outside_io::Source;
 
 /// Where the lines of a text led.
-#[derive(Clone, Copy, Debug, PartialEq, Eq)]
+#[derive(Clone, Copy)]
 pub enum Walked {
     /// To its `end`, which has that number and is the last line.
     Ended(u64),

@@ -13,7 +13,7 @@ use std::str;
 pub const FILE_NAME_BYTES: usize = 1_024;
 
 /// The name of a file, as a play names it.
-#[derive(Debug, Drop)]
+#[derive(Drop)]
 pub struct FileName {
     text: String,
 }

@@ -7,7 +7,7 @@ use act_text::{Name, PortName, TextAct};
 use std::marker::Model;
 
 /// What a line of a trace script says, by its form.
-#[derive(Debug, Drop)]
+#[derive(Drop)]
 pub enum TraceForm {
     /// An act that names neither a header nor what a component is made of.
     Act(TextAct),
@@ -41,7 +41,7 @@ pub enum TraceForm {
 }
 
 /// A line of a trace script: its number, what it says, and its words, parted by one space.
-#[derive(Debug, Drop)]
+#[derive(Drop)]
 pub struct TraceLine {
     pub line: u32,
     pub form: TraceForm,
@@ -49,7 +49,7 @@ pub struct TraceLine {
 }
 
 /// The lines of a trace script, in order.
-#[derive(Debug, Drop)]
+#[derive(Drop)]
 pub struct TraceLines {
     lines: Vec<TraceLine>,
 }

@@ -7,7 +7,7 @@ use act_text::{Name, PortName};
 use std::marker::Model;
 
 /// What a component of a play is, with what its line sets.
-#[derive(Debug, Drop)]
+#[derive(Drop)]
 pub enum PartForm {
     Source(FileName),
     /// A source whose format is told while the play runs.
@@ -25,7 +25,7 @@ pub enum PartForm {
 }
 
 /// The weights of a mixer, by input: 2 to 8.
-#[derive(Debug, Drop)]
+#[derive(Drop)]
 pub struct Weights {
     weights: Vec<u32>,
 }
@@ -61,7 +61,7 @@ impl Weights {
 }
 
 /// A line of a play that names a component, with the number of its script line.
-#[derive(Debug, Drop)]
+#[derive(Drop)]
 pub struct PartLine {
     pub line: u32,
     pub name: Name,
@@ -69,7 +69,7 @@ pub struct PartLine {
 }
 
 /// A line of a play that joins an output to an input by a tunnel, with the number of its script line.
-#[derive(Clone, Copy, Debug, PartialEq, Eq)]
+#[derive(Clone, Copy)]
 pub struct LinkLine {
     pub line: u32,
     pub output: PortName,
@@ -81,7 +81,7 @@ pub struct LinkLine {
 }
 
 /// The components of a play, in script order: 32 at most.
-#[derive(Debug, Drop)]
+#[derive(Drop)]
 pub struct PartLines {
     lines: Vec<PartLine>,
 }
@@ -117,7 +117,7 @@ impl PartLines {
 }
 
 /// The links of a play, in script order.
-#[derive(Debug, Drop)]
+#[derive(Drop)]
 pub struct LinkLines {
     lines: Vec<LinkLine>,
 }

@@ -25,7 +25,7 @@ const MOST_BYTES: usize = 65_536;
 const UNITS: u32 = 128;
 
 /// A script, line by line.
-#[derive(Debug, Drop)]
+#[derive(Drop)]
 pub enum Script {
     Play {
         units: u32,

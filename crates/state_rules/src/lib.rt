@@ -8,7 +8,7 @@ ghost use Rattle.state_rules.specs.Asked.{asked};
 use omx_types::State;
 
 /// What a state that is asked for comes to.
-#[derive(Clone, Copy, Debug, PartialEq, Eq)]
+#[derive(Clone, Copy)]
 pub enum Asked {
     /// The transition is lawful, and begins.
     Begin,

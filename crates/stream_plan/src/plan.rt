@@ -18,7 +18,7 @@ use std::marker::Model;
 use wav_form::WavHead;
 
 /// A play whose every port has its link, with its components in an order in which each stands behind those that it takes from.
-#[derive(Debug, Drop)]
+#[derive(Drop)]
 pub struct Plan {
     units: u32,
     parts: Vec<PartLine>,

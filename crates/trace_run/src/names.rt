@@ -7,7 +7,7 @@ use act_text::{Name, PortName};
 use omx_types::{Handle, PortId};
 
 /// A component that was made, with the name of its line.
-#[derive(Clone, Copy, Debug, PartialEq, Eq)]
+#[derive(Clone, Copy)]
 pub struct NamedComponent {
     pub name: Name,
     pub handle: Handle,

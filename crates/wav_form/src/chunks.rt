@@ -19,7 +19,7 @@ use outside_io::Source;
 pub(crate) const CHUNK_HEAD: u64 = 8;
 
 /// A chunk that was read: its name, its length, and the offset of its content.
-#[derive(Clone, Copy, Debug, PartialEq, Eq)]
+#[derive(Clone, Copy)]
 pub(crate) struct ChunkHead {
     pub(crate) name: [u8; 4],
     pub(crate) size: u32,

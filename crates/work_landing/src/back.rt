@@ -6,7 +6,7 @@ use il_machine::Mark;
 use omx_types::Handle;
 
 /// How a port takes a header back.
-#[derive(Clone, Copy, Debug)]
+#[derive(Clone, Copy)]
 pub struct Way {
     pub input: bool,
     /// The bytes of a frame.

@@ -24,7 +24,7 @@ use omx_types::{Event, Handle, Kind, OmxError, PartFault};
 use port_stock::Stock;
 
 /// What a step came to.
-#[derive(Clone, Copy, Debug)]
+#[derive(Clone, Copy)]
 pub struct Step {
     pub frames: u32,
     pub fault: Option<PartFault>,

@@ -4,7 +4,7 @@ use act_text::Name;
 use omx_types::Handle;
 
 /// A component of a play.
-#[derive(Clone, Copy, Debug, PartialEq, Eq)]
+#[derive(Clone, Copy)]
 pub struct Seat {
     pub handle: Handle,
     pub name: Name,

@@ -57,6 +57,7 @@ impl Signs {
         self.stop.store(true, Ordering::SeqCst);
     }
 
+    /// Whether all threads are to end.
     pub fn is_stopped(&self) -> bool {
         self.stop.load(Ordering::SeqCst)
     }
@@ -67,6 +68,7 @@ impl Signs {
         self.rings.fetch_add(1, Ordering::SeqCst);
     }
 
+    /// Whether the conductor is done.
     pub fn is_over(&self) -> bool {
         self.over.load(Ordering::SeqCst)
     }

@@ -9,7 +9,7 @@ ghost use Rattle.worker_course.specs.Runs.{HasRun};
 ghost use Rattle.worker_course.specs.Sights.{all_seen};
 
 use crate::faults::fault_of;
-use crate::laws::law_of_runs;
+use crate::laws::law_of_worker_runs;
 use audio_parts::PartFile;
 use conductor::PlayClient;
 use outside_io::{Sink, Source};
@@ -58,7 +58,7 @@ pub(crate) fn end_play<S: Source, K: Sink, G: Gate + Drop>(
         worst,
         stopped: _,
     } = ran;
-    law_of_runs::<S, K, G>();
+    law_of_worker_runs::<S, K, G>();
     graph.law_of_worlds();
     if !ended || !are_whole(pages.as_slice()) {
         stop_graph(graph, plan, files);

@@ -55,7 +55,7 @@ pub(crate) fn law_of_made_graphs<S: Source, K: Sink>()
 
 /// A graph that workers led can be ended where the one who conducts says that all is over, and always be stopped. What then came back of its
 /// files is what a play leaves that wasn't done whole; or, with the text of its pages, what one leaves that was.
-pub(crate) fn law_of_runs<S: Source, K: Sink, G: Gate>()
+pub(crate) fn law_of_worker_runs<S: Source, K: Sink, G: Gate>()
     ensures fits { (plan : PlanValue) (workers : ℕ) (before : List (Option (PartFile S K))) (ran : Ran S K Progress G) → HasRun S.Source K.Sink G.counts plan workers before ran
         → (length plan.parts ≤ 32) × (length plan.joints ≤ 1024) × AreLinks (ends_of plan) (length plan.joints) }
     ensures placed { (plan : PlanValue) (workers : ℕ) (before : List (Option (PartFile S K))) (ran : Ran S K Progress G) → HasRun S.Source K.Sink G.counts plan workers before ran

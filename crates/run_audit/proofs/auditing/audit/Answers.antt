@@ -1,5 +1,6 @@
 use Rattle.std.proofs.Common.{◌<◌, ◌^◌, Err, inl, refl, sym, ◌∙◌, arith}
 use Rattle.std.proofs.lemmas.List.{with_items_is}
+use Rattle.std.proofs.lemmas.Result.{err_from_is_err_and}
 use Rattle.omx_types.specs.declared.fault.Fault.TheVariants as Faults
 use Rattle.outside_io.specs.Files.{CountsStand}
 use Rattle.run_audit.specs.declared.auditing.AuditFault.TheVariants as audits
@@ -12,15 +13,17 @@ use Rattle.run_audit.proofs.Outcome as outcome
 use Rattle.run_audit.proofs.auditing.audit.Goals as goal
 use Rattle.run_audit.proofs.auditing.audit.Goals.{else-is_ok-via-then-is_ok+else-read_faults-before, else-is_ok-via-else-is_ok}
 
-pub returns-in-Err : goal.returns-in-Err
-returns-in-Err g c =
+pub returns-in_err-opened : goal.returns-in_err-opened
+returns-in_err-opened g c =
     let script = c.args.script.now in
     let log = c.args.log.now in
     let old = g.M.Media.outside c.args.media.now in
     let new = g.M.Media.outside c.open_compared.new.media in
-    let fault = c.in-Err.fault in
-    let U = c.in-Err.ensures.unopened in
+    let fault = c.in_err-opened.field-0.0 in
+    let U = c.in_err-opened.ensures.unopened in
     let other : IsUnaudited script log old new fault = inl U in
+    let p = err_from_is_err_and c.from_residual.result c.from_residual.ensures.1 in
+    rw (p.1, p.2) (
     record {
       goes_on = outcome.unopened_goes script old new fault U;
       files = outcome.unopened_files script old new fault U;
@@ -33,10 +36,11 @@ returns-in-Err g c =
       played = tt;
       plays = tt;
     }
+    )
 
-pub returns-in-Err-read_whole : goal.returns-in-Err-read_whole
-returns-in-Err-read_whole g c =
-    let R = c.in-Err-read_whole.ensures in
+pub returns-in-Err : goal.returns-in-Err
+returns-in-Err g c =
+    let R = c.in-Err.ensures in
     let reads = g.M.Src.Source in
     let script = c.args.script.now in
     let log = c.args.log.now in
@@ -44,14 +48,14 @@ returns-in-Err-read_whole g c =
     let mid = g.M.Media.outside c.open_compared.new.media in
     let late = g.M.Media.outside c.read_whole.new.media in
     let new = g.M.Media.outside c.close_compared.new.media in
-    let A = c.in-Ok.ensures.opened in
-    let plan = c.in-Ok.opened.plan in
-    let files = c.in-Ok.opened.files.items in
+    let A = c.in_ok-opened.ensures.opened in
+    let plan = c.in_ok-opened.opened.plan in
+    let files = c.in_ok-opened.opened.files.items in
     let fault = c.log_fault.result in
     let L = audited.leaves reads script log old mid late new plan files files A R.goes_on R.files R.write_faults files refl c.close_compared.ensures in
     let other : IsUnaudited script log old new fault =
     outcome.unread_log reads script log old mid late new plan files files A R.goes_on R.files R.write_faults c.close_compared.ensures
-    c.in-Err-read_whole.unread fault c.log_fault.ensures R.reason R.there (λ n. R.absences_stay (λ e. n (cc))) (λ n. R.asked (λ e. n (cc))) (causes.none_failed reads script old mid plan files A) in
+    c.in-Err.unread fault c.log_fault.ensures R.reason R.there (λ n. R.absences_stay (λ e. n (cc))) (λ n. R.asked (λ e. n (cc))) (causes.none_failed reads script old mid plan files A) in
     record {
       goes_on = L.goes_on;
       files = L.files;
@@ -69,16 +73,16 @@ pub replay-replayed-requires-clause-files : goal.replay-replayed-requires-clause
 replay-replayed-requires-clause-files g c =
     let q = c.requires.script in
     let old = g.M.Media.outside c.args.media.now in
-    let A = c.in-Ok.ensures.opened in (
+    let A = c.in_ok-opened.ensures.opened in (
       old.tells,
       A.known,
-      judged.sinks_of old.tells old c.in-Ok.opened.plan,
-      outcome.given_so g.M.Src.Source c.args.script.now old (g.M.Media.outside c.open_compared.new.media) c.in-Ok.opened.plan c.in-Ok.opened.files.items A q.0 c.args.log.now q.1 q.2 c.as_mut_slice.result.now c.as_mut_slice.ensures.value,
+      judged.sinks_of old.tells old c.in_ok-opened.opened.plan,
+      outcome.given_so g.M.Src.Source c.args.script.now old (g.M.Media.outside c.open_compared.new.media) c.in_ok-opened.opened.plan c.in_ok-opened.opened.files.items A q.0 c.args.log.now q.1 q.2 c.as_mut_slice.result.now c.as_mut_slice.ensures.value,
     )
 
 pub returns-then-read_faults-before : goal.returns-then-read_faults-before
 returns-then-read_faults-before g c =
-    let R = c.in-Ok-read_whole.ensures in
+    let R = c.in-Ok.ensures in
     let reads = g.M.Src.Source in
     let script = c.args.script.now in
     let log = c.args.log.now in
@@ -86,16 +90,16 @@ returns-then-read_faults-before g c =
     let mid = g.M.Media.outside c.open_compared.new.media in
     let late = g.M.Media.outside c.read_whole.new.media in
     let new = g.M.Media.outside c.close_compared-2.new.media in
-    let A = c.in-Ok.ensures.opened in
-    let plan = c.in-Ok.opened.plan in
-    let before = c.in-Ok.opened.files.items in
+    let A = c.in_ok-opened.ensures.opened in
+    let plan = c.in_ok-opened.opened.plan in
+    let before = c.in_ok-opened.opened.files.items in
     let after = c.replay-replayed.new.files in
     let entries = c.as_mut_slice.result.now in
-    let written = with_items_is c.in-Ok.opened.files after (c.replay-replayed.ensures.many ∙ c.as_mut_slice.ensures.len) in
+    let written = with_items_is c.in_ok-opened.opened.files after (c.replay-replayed.ensures.many ∙ c.as_mut_slice.ensures.len) in
     let few : late.read_faults < 2 ^ 64 = omega (arith, c.read_faults-before.type_inv, c.read_faults-before.ensures) in
     let L = audited.leaves reads script log old mid late new plan before after A R.goes_on R.files R.write_faults _ written c.close_compared-2.ensures in
     let other : IsUnaudited script log old new Faults.ReadFault =
-    audited.risen reads script log old mid late new plan before after A R.goes_on R.files R.write_faults _ written c.close_compared-2.ensures (R.asked (λ e. cc)) (R.absences_stay (λ e. cc)) (R.read_stays (λ e. cc)) (R.none_failed (λ e. cc)) c.in-Ok-read_whole.text.items R.bytes R.given
+    audited.risen reads script log old mid late new plan before after A R.goes_on R.files R.write_faults _ written c.close_compared-2.ensures (R.asked (λ e. cc)) (R.absences_stay (λ e. cc)) (R.read_stays (λ e. cc)) (R.none_failed (λ e. cc)) c.in-Ok.text.items R.bytes R.given
     entries c.as_mut_slice.ensures.value c.replay-replayed.ensures.many c.replay-replayed.ensures.files few (λ e. c.if-read_faults-before.true (c.read_faults.ensures ∙ (e ∙ sym c.read_faults-before.ensures))) in
     record {
       goes_on = L.goes_on;
@@ -112,7 +116,7 @@ returns-then-read_faults-before g c =
 
 pub returns : goal.returns
 returns g c =
-    let R = c.in-Ok-read_whole.ensures in
+    let R = c.in-Ok.ensures in
     let reads = g.M.Src.Source in
     let script = c.args.script.now in
     let log = c.args.log.now in
@@ -120,18 +124,18 @@ returns g c =
     let mid = g.M.Media.outside c.open_compared.new.media in
     let late = g.M.Media.outside c.read_whole.new.media in
     let new = g.M.Media.outside c.close_compared-2.new.media in
-    let A = c.in-Ok.ensures.opened in
-    let plan = c.in-Ok.opened.plan in
-    let before = c.in-Ok.opened.files.items in
+    let A = c.in_ok-opened.ensures.opened in
+    let plan = c.in_ok-opened.opened.plan in
+    let before = c.in_ok-opened.opened.files.items in
     let after = c.replay-replayed.new.files in
     let entries = c.as_mut_slice.result.now in
     let answer = c.outcome-answer.result in
     let q = c.requires.script in
-    let written = with_items_is c.in-Ok.opened.files after (c.replay-replayed.ensures.many ∙ c.as_mut_slice.ensures.len) in
+    let written = with_items_is c.in_ok-opened.opened.files after (c.replay-replayed.ensures.many ∙ c.as_mut_slice.ensures.len) in
     let few : late.read_faults < 2 ^ 64 = omega (arith, c.read_faults-before.type_inv, c.read_faults-before.ensures) in
     let L = audited.leaves reads script log old mid late new plan before after A R.goes_on R.files R.write_faults _ written c.close_compared-2.ensures in
     let N =
-    audited.known reads script log old mid late new plan before after A R.goes_on R.files R.write_faults _ written c.close_compared-2.ensures (R.asked (λ e. cc)) (R.absences_stay (λ e. cc)) (R.read_stays (λ e. cc)) (R.none_failed (λ e. cc)) c.in-Ok-read_whole.text.items R.bytes R.given
+    audited.known reads script log old mid late new plan before after A R.goes_on R.files R.write_faults _ written c.close_compared-2.ensures (R.asked (λ e. cc)) (R.absences_stay (λ e. cc)) (R.read_stays (λ e. cc)) (R.none_failed (λ e. cc)) c.in-Ok.text.items R.bytes R.given
     entries c.as_mut_slice.ensures.value c.replay-replayed.ensures.many c.replay-replayed.ensures.files few q.0 q.1 c.args.log.now q.2 c.replay-replayed.result c.as_slice.result.now c.as_slice.ensures.value c.replay-replayed.ensures.verdict c.replay-replayed.ensures.gives c.replay-replayed.ensures.failed
     c.as_slice-2.result.now c.as_slice-2.ensures.value c.outcome-answer.ensures.met c.parts_of.result.now c.parts_of.ensures answer c.outcome-answer.ensures.told in
     record {

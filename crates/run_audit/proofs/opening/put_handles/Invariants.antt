@@ -1,4 +1,4 @@
-use Rattle.std.proofs.Common.{◌≡◌, ◌<◌, ◌≤◌, ℕ, Some, length, slice_get}
+use Rattle.std.proofs.Common.{◌≡◌, ◌≤◌, ℕ, Some, length, slice_get}
 use Rattle.std.specs.Vec.{vec_capacity, vec_len}
 use Rattle.omx_types.specs.declared.handle.Handle.{Handle}
 use Rattle.play_graph.specs.Graphs.{IsHandleAt}

@@ -1,7 +1,7 @@
 use Rattle.std.proofs.Common.{length}
 use Rattle.play_files.specs.Seen.{file_seen, files_seen}
 use Rattle.play_course.proofs.Running.{not_begun}
-use Rattle.worker_course.proofs.Ran.{run_broken, run_done}
+use Rattle.worker_course.proofs.Ran.{run_done}
 use Rattle.worker_course.proofs.playing.run.Goals as goal
 
 pub returns-in-Err : goal.returns-in-Err

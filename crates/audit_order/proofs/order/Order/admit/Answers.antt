@@ -1,4 +1,4 @@
-use Rattle.std.proofs.Common.{◌≡◌, ◌⊎◌, inl, inr, List, refl, sym, subst, ◌∙◌}
+use Rattle.std.proofs.Common.{◌≡◌, ◌⊎◌, inl, inr, List, sym, subst, ◌∙◌}
 use Rattle.il_machine.specs.declared.answer.Progress.{Progress}
 use Rattle.act_text.specs.declared.act.TextAct.{TextAct}
 use Rattle.play_forms.specs.Plans.{PlanValue}

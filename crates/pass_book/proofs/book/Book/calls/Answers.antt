@@ -1,5 +1,5 @@
 use Rattle.std.proofs.Common.{◌∙◌, ap, ◌++◌, ◌∷◌, [], length, length-append, arith, take, ◌+◌}
-use Rattle.pass_book.proofs.Calling.{AreMade, one_made, take_more}
+use Rattle.pass_book.proofs.Calling.{one_made, take_more}
 use Rattle.pass_book.proofs.book.Book.calls.Goals as goal
 
 pub loop-i-preserved : goal.loop-i-preserved

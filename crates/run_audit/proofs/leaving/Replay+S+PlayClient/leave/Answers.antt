@@ -5,7 +5,6 @@ use Rattle.play_graph.specs.Stops.{HasStopped}
 use Rattle.play_plan_laws.specs.Endings.{ends_of}
 use Rattle.il_graph.specs.Shown.{file_of}
 use Rattle.audit_order.specs.Ends.{link_at}
-use Rattle.audit_order.specs.Steps.{OrderValue}
 use Rattle.run_audit.specs.Files.{FileGoesOn, file_at}
 use Rattle.run_audit.specs.Leaving.{AreTried, rejoining}
 use Rattle.run_audit.specs.Opening.{play_sight}

@@ -1,4 +1,4 @@
-use Rattle.std.proofs.Common.{ℕ, length, replicate, sym, ◌∙◌, ap, arith}
+use Rattle.std.proofs.Common.{ℕ, length, replicate, ◌∙◌, ap, arith}
 use Rattle.il_machine.specs.Components.{no_progress}
 use Rattle.run_audit.proofs.Opened.{same_handles, untold}
 use Rattle.run_audit.proofs.opening.Replay+S+PlayClient.new.Goals as goal

@@ -1,4 +1,4 @@
-use Rattle.std.proofs.Common.{inl, sym, ◌∙◌, ap, subst}
+use Rattle.std.proofs.Common.{inl, sym, ◌∙◌, subst}
 use Rattle.std.proofs.lemmas.List.{with_items_is}
 use Rattle.audit_acts.specs.Asking.{IsSaid}
 use Rattle.run_audit.specs.Keeping.{PutsClient}

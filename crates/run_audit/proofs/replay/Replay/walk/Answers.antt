@@ -1,8 +1,8 @@
 use Rattle.std.proofs.Common.{[], ◌∷◌, false, sym, ◌∙◌, arith}
 use Rattle.audit_lines.specs.Lines.{pieces_of}
 use Rattle.run_audit.specs.Seeing.{replay_sight}
-use Rattle.run_audit.proofs.Along.{come_first, come_on, come_so, walked_broken, walked_ending, walked_out, walked_stop}
-use Rattle.run_audit.proofs.Files.{files_same, files_then}
+use Rattle.run_audit.proofs.Along.{come_on, come_so, walked_broken, walked_ending, walked_out, walked_stop}
+use Rattle.run_audit.proofs.Files.{files_then}
 use Rattle.run_audit.proofs.replay.Replay.walk.Goals as goal
 
 pub returns-then-is_end-clause-walked : goal.returns-then-is_end-clause-walked

@@ -1,4 +1,4 @@
-use Rattle.std.proofs.Common.{◌≡◌, ◌+◌, ◌^◌, ◌<◌, ℕ, Bool, false, length}
+use Rattle.std.proofs.Common.{◌≡◌, ◌+◌, ◌^◌, ◌<◌, Bool, false, length}
 use Rattle.audit_forms.specs.Audited.{Case, Moment}
 use Rattle.audit_lines.specs.Lines.{pieces_of}
 use Rattle.run_audit.specs.Files.{FilesGoOn}

@@ -2,7 +2,7 @@ use Rattle.play_run.proofs.ThreadFiles.{are_offered}
 use Rattle.worker_course.proofs.Broken.{broken_off, done, same, unwritten}
 use Rattle.worker_course.proofs.Led.{can_end, can_stop, does_fit, placed}
 use Rattle.worker_course.proofs.Premises.{BoardLaws, FileLaws, WorldLaws}
-use Rattle.worker_course.proofs.laws.law_of_runs.Goals as goal
+use Rattle.worker_course.proofs.laws.law_of_worker_runs.Goals as goal
 
 pub returns : goal.returns
 returns g c =
